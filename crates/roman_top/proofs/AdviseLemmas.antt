@@ -1,8 +1,7 @@
 -- Writing advice by accepted costs as part of a run.
-use Rattle.roman_top.proofs.Common.{◌≡◌, ◌≢◌, ◌↔◌, ℕ, ◌*◌, ◌<◌, ◌≤◌, Bool, IsTrue, IsFalse, List, [], Result, Ok, Err, refl, sym, subst, arith, cond-true, cond-false, lt-ltb, cases_lt, le-ltb, Texts, Sys, Pair, IsSys, sizes_of, count, pair_at, is_related, related_count, by_test, related_great, great_related, numbers_are_pairs, same_test, NamedSys, system_of, PlainLibrary, IsSeated, Seated, Advising, Unrelated, TooMany, Told, advice_text, advised_by, Listed, SaysAdvice, GivesAdvice, OnCosts, Affords, Advise, IsAnswered, Accepts, document_opening, OnOpening, JobDoes, Status, PartError, Great, costs_of, AdviceError, MAX_VALUES}
+use Rattle.roman_top.proofs.Common.{◌≡◌, ◌≢◌, ◌↔◌, ℕ, ◌*◌, ◌<◌, ◌≤◌, Bool, IsTrue, IsFalse, List, [], Result, Ok, Err, refl, sym, subst, arith, cond-true, cond-false, lt-ltb, cases_lt, le-ltb, Texts, Sys, Pair, IsSys, sizes_of, count, pair_at, is_related, related_count, by_test, related_great, great_related, numbers_are_pairs, same_test, NamedSys, system_of, PlainLibrary, IsSeated, Seated, Advising, Unrelated, TooMany, Told, advice_text, advised_by, Listed, SaysAdvice, GivesAdvice, OnCosts, Affords, Advise, IsAnswered, Accepts, document_opening, OnOpening, JobDoes, Status, PartError, Great, costs_of, AdviceError, MAX_VALUES, on_accepted, seated_start}
 use Rattle.roman_cost.specs.declared.error.AdviceError.TheVariants as advice_error
-use Rattle.roman_top.proofs.EndingLemmas.{on_accepted}
-use Rattle.roman_top.proofs.OpeningLemmas.{at_start, seated_start}
+use Rattle.roman_top.proofs.OpeningLemmas.{at_start}
 
 -- ---- the result of a request for advice
 

@@ -1,6 +1,5 @@
 -- The check of a certificate, as part of a run.
-use Rattle.roman_top.proofs.Common.{◌≡◌, ℕ, List, [], Option, None, Some, IfSome, sym, ap, ap₂, ◌∙◌, subst, Texts, shelf_text, rest_from, number, sizes_of, numbered, Verdict, cert_verdict, NamedSys, system_of, IsSeated, Seated, Check, Accepts, document_opening, library_system, OnOpening, start_pair_of, JobDoes, SaysVerdict, Status, Arena, HaveVerdict}
-use Rattle.roman_top.proofs.EndingLemmas.{on_accepted}
+use Rattle.roman_top.proofs.Common.{◌≡◌, ℕ, List, [], Option, None, Some, IfSome, sym, ap, ap₂, ◌∙◌, subst, Texts, shelf_text, rest_from, number, sizes_of, numbered, Verdict, cert_verdict, NamedSys, system_of, IsSeated, Seated, Check, Accepts, document_opening, library_system, OnOpening, start_pair_of, JobDoes, SaysVerdict, Status, Arena, HaveVerdict, on_accepted}
 use Rattle.roman_top.proofs.OpeningLemmas.{text_source}
 
 -- the verdict on the bytes of a source is that on the text of the shelf with which it began

@@ -42,7 +42,6 @@ pub use Rattle.roman_library.specs.Library.{IsLibrary, IsService, PlainLibrary, 
 pub use Rattle.roman_library.specs.Refusals.{refusal_of}
 pub use Rattle.roman_library.specs.Targets.{CombinesTargets, NamesTargets, PlainTargets}
 pub use Rattle.roman_library.specs.declared.library.Service.{Service}
-pub use Rattle.roman_library.specs.declared.refusal.Refusal.{Refusal}
 unfoldable pub use Rattle.roman_make.specs.Made.{floor, made, shift, worker}
 pub use Rattle.roman_make.specs.Script.{script_lines}
 pub use Rattle.roman_model.proofs.CallerLemmas.{HasNoRepeats-below, HasNoRepeats-filter, HasNoRepeats-flat_map, HasNoRepeats-map, IsPair-turned, IsPair-without, all_below_at, all_below_from, allowed_in, allowed_in_range, any_from, any_true, by_test, filter_in, from_allowed, from_below, from_end, from_flat_map, from_get_map, from_map, from_outcome, from_pairs, from_place, get_map, get_or-below, great_related, in_below, in_contains, in_filter, in_flat_map, in_listed, in_map, in_not_empty, in_pairs, justified_is, length-below, length-pairs, length-remove, length-set_frozen, listed_in, map-map, move_in_range, not_empty_in, numbers_are_pairs, offer_is, offers_are, order_goes_on, outcome_in, pairs_once, related_great, renaming_keeps, same_test, sum_by_same, system_is_same, there_is, without_changes, written_is_greatest}
@@ -70,8 +69,15 @@ pub use Rattle.roman_model.specs.declared.request.Request.{Request}
 pub use Rattle.roman_model.specs.declared.way.Way.{Way}
 pub use Rattle.roman_multi.specs.Combining.{PlainCombined, combined_state_names, joined, machines, names_at, request_name, request_names, requests_in}
 unfoldable pub use Rattle.roman_multi.specs.Combining.{combined_parts}
+pub use Rattle.roman_opening.proofs.CallerLemmas.{IsSaid, accepted_is, away_is_run, ends_weaker, on_accepted, opened_from, opens_fault, opens_none, opens_within, put_ends, same_outputs, seated_start, told_all, told_both, told_known, told_more, work_of}
+pub use Rattle.roman_opening.specs.Causes.{ShelfCause, SinkCause}
+pub use Rattle.roman_opening.specs.Endings.{Accepts, Ends, EndsBare, EndsEarly, Finishes, IsRelated, Opened, OpensDocument, TurnsAway, Writes, WritesPrefix, WritesText}
+pub use Rattle.roman_opening.specs.Opening.{Accepted, EndsSaying, OnOpening, document_opening, is_past_limit, library_system, limit_line}
+pub use Rattle.roman_opening.specs.Outputs.{Outputs, outputs}
+pub use Rattle.roman_opening.specs.RefusalLine.{refusal_line}
+pub use Rattle.roman_opening.specs.declared.opening.Related.{Related}
+pub use Rattle.roman_opening.specs.declared.status.Status.{Status}
 pub use Rattle.roman_parts.specs.declared.error.PartError.{PartError}
-pub use Rattle.roman_relation.specs.Greatest.{IsRelation}
 pub use Rattle.roman_session.proofs.CallerLemmas.{is_within, reports_great}
 pub use Rattle.roman_session.specs.Answering.{Answered}
 pub use Rattle.roman_session.specs.Reports.{report_text}
@@ -95,10 +101,10 @@ pub use Rattle.roman_text.specs.declared.errors.LineError.{LineError}
 pub use Rattle.roman_whatif.specs.Left.{places}
 pub use Rattle.roman_whatif.specs.Told.{told}
 pub use Rattle.roman_top.specs.Advice.{Affords, GivesAdvice, OnCosts, SaysAdvice}
-pub use Rattle.roman_top.specs.Causes.{InputCause, ShelfCause, SinkCause}
+pub use Rattle.roman_top.specs.Causes.{InputCause}
 pub use Rattle.roman_top.specs.Command.{Advise, Certify, Check, Command, Job, Make, On, Resilience, Run, Shortest, Synth, command_as, usage_line}
 pub use Rattle.roman_top.specs.Complete.{AnswersWherePossible, CanAnswer, IsAnswered, IsUndisturbed, Suffices}
-pub use Rattle.roman_top.specs.Endings.{Accepts, DoesJob, Ends, EndsBare, EndsEarly, FindsVerdict, Finishes, GoesOnFrom, HearsText, IsRelated, IsTooLong, MeansLibrary, Opened, OpensDocument, Prints, TurnsAway, Writes, WritesPrefix, WritesText, heard_status, status_of}
+pub use Rattle.roman_top.specs.Endings.{DoesJob, FindsVerdict, GoesOnFrom, HearsText, IsTooLong, Prints, heard_status, status_of}
 pub use Rattle.roman_top.specs.Faults.{AtMemory, AtReadFault, AtShelfFault, AtWriteFault, EndsInput, HasAnswered, HasAnsweredInput, HasAnsweredPrefix, HasPrefixOfTaken, HasRunPrefix, IsFree, IsOfSession, IsOfTaken, TakesInput}
 pub use Rattle.roman_top.specs.Headline.{HasHeadline, HasReported, KeepsPromise}
 pub use Rattle.roman_top.specs.HeadlineAdvise.{AdvisesBy, KeepsAdvice}
@@ -110,16 +116,12 @@ pub use Rattle.roman_top.specs.HeadlineResilience.{AreFailing, AreServings, IsRi
 pub use Rattle.roman_top.specs.HeadlineTargets.{HasAnsweredTargets, IsTurnOfTargets, KeepsTargets, MeansTargets, MovesOne, OffersServingAll, TargetAction, TellsTarget, couple_now}
 pub use Rattle.roman_top.specs.HeadlineTurns.{AreTurns, HasAnsweredLines, Means, Turn, after_turns}
 pub use Rattle.roman_top.specs.Made.{Passes, made_line, stage_line, stages, standing}
-pub use Rattle.roman_top.specs.Opening.{Accepted, EndsSaying, OnOpening, Opening, Past, Refused, document_opening, is_past_limit, library_system, limit_line, opening_of}
 pub use Rattle.roman_top.specs.Outlooks.{head_text, line_without, ones, outlook_words, service_names, twos, way_word}
 unfoldable pub use Rattle.roman_top.specs.Outlooks.{lines_without, outlook_text}
-pub use Rattle.roman_top.specs.RefusalLine.{refusal_line, rule_text}
 pub use Rattle.roman_top.specs.Run.{CertifiesSystem, EndsBy, HasRun, IsSessionText, JobDoes, Makes, Runs, SaysVerdict, Synthesises, Talks, TellsShortestOf, WithTexts, texts_for}
 pub use Rattle.roman_top.specs.Served.{Served, ServedBeside}
 pub use Rattle.roman_top.specs.Sessions.{StartsAreKnown}
 pub use Rattle.roman_top.specs.Stages.{HasComeTo, line_of_stage, lines_of}
 pub use Rattle.roman_top.specs.Verdicts.{greatest_text, rejected_text}
-pub use Rattle.roman_top.specs.World.{IsUnwritten, Outputs, World, beside, outputs, world}
-pub use Rattle.roman_top.specs.declared.opening.Related.{Related}
+pub use Rattle.roman_top.specs.World.{IsUnwritten, World, beside, world}
 pub use Rattle.roman_top.specs.declared.stage.Stage.{Stage}
-pub use Rattle.roman_top.specs.declared.status.Status.{Status}

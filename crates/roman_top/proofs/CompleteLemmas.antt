@@ -1,8 +1,7 @@
 -- Commands are answered.
-use Rattle.roman_top.proofs.Common.{◌∙◌, ◌≡◌, ◌≢◌, ℕ, IsTrue, List, Option, None, Some, IfSome, refl, sym, subst, Texts, shelf_text, Sys, Pair, sizes_of, number, numbered, Verdict, Greatest, Rejected, TooLong, cert_verdict, PlainLibrary, start_pair_of, is_heard_out, Job, Synth, Run, Certify, Check, Shortest, Advise, Resilience, Command, On, Make, IsAnswered, Suffices, CanAnswer, IsUndisturbed, AnswersWherePossible, library_system, document_opening, EndsBy, SaysVerdict, Talks, JobDoes, IsSessionText, HasRun, texts_for, Served, World, Status, cond-true}
-use Rattle.roman_top.specs.declared.status.Status.TheVariants as status
+use Rattle.roman_opening.specs.declared.status.Status.TheVariants as status
+use Rattle.roman_top.proofs.Common.{◌∙◌, ◌≡◌, ◌≢◌, ℕ, IsTrue, List, Option, None, Some, IfSome, refl, sym, subst, Texts, shelf_text, Sys, Pair, sizes_of, number, numbered, Verdict, Greatest, Rejected, TooLong, cert_verdict, PlainLibrary, start_pair_of, is_heard_out, Job, Synth, Run, Certify, Check, Shortest, Advise, Resilience, Command, On, Make, IsAnswered, Suffices, CanAnswer, IsUndisturbed, AnswersWherePossible, library_system, document_opening, EndsBy, SaysVerdict, Talks, JobDoes, IsSessionText, HasRun, texts_for, Served, World, Status, cond-true, told_all, told_more, work_of}
 use Rattle.roman_top.proofs.AdviseLemmas.{advice_answered}
-use Rattle.roman_top.proofs.EndingLemmas.{told_all, told_more, work_of}
 
 -- The answers
 

@@ -1,7 +1,6 @@
 -- The text of a session keeps its promise.
-use Rattle.roman_top.proofs.Common.{◌≡◌, ℕ, List, length, take, nat_le, Option, Some, sym, subst, arith, if◌then◌else◌, Texts, Wrote, GreatestIsComplete, lines, ended_lines, IsIn, MAX_SESSION_BYTES, PlainLibrary, Situation, report_text, parts_of, start_pair_of, Answers, State, start_state, IsState, LinesAreRead, Synth, Run, Command, On, IsFree, MeansTargets, IsTurnOfTargets, KeepsTargets, HasAnsweredTargets, Turn, Means, HasAnsweredLines, Accepted, document_opening, Talks, Synthesises, HasRun, Served, World, Status, PlainTargets, NamesTargets, library_of, targets_combined, ReportsGreat, reports_great, answered_heard, KeepsPromise, HasHeadline, HasReported}
-use Rattle.roman_top.specs.declared.status.Status.TheVariants as status
-use Rattle.roman_top.proofs.EndingLemmas.{told_more, work_of, opens_within}
+use Rattle.roman_opening.specs.declared.status.Status.TheVariants as status
+use Rattle.roman_top.proofs.Common.{◌≡◌, ℕ, List, length, take, nat_le, Option, Some, sym, subst, arith, if◌then◌else◌, Texts, Wrote, GreatestIsComplete, lines, ended_lines, IsIn, MAX_SESSION_BYTES, PlainLibrary, Situation, report_text, parts_of, start_pair_of, Answers, State, start_state, IsState, LinesAreRead, Synth, Run, Command, On, IsFree, MeansTargets, IsTurnOfTargets, KeepsTargets, HasAnsweredTargets, Turn, Means, HasAnsweredLines, Accepted, document_opening, Talks, Synthesises, HasRun, Served, World, Status, PlainTargets, NamesTargets, library_of, targets_combined, ReportsGreat, reports_great, answered_heard, KeepsPromise, HasHeadline, HasReported, told_more, work_of, opens_within}
 use Rattle.roman_top.proofs.JobLemmas.{keeps_text}
 use Rattle.roman_top.proofs.StartsKnown.{starts_known, some_start}
 use Rattle.roman_top.proofs.TargetLemmas.{means_targets, steps_tell}

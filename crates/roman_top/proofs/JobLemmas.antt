@@ -1,9 +1,8 @@
 -- A run of a job on an accepted document keeps its promise.
-use Rattle.roman_top.proofs.Common.{◌≡◌, ℕ, ◌≤◌, List, [], Option, None, Some, sym, subst, arith, Texts, shelf_text, IsSys, IsPair, IsWithinCells, GreatestIsComplete, cells, library_of, PlainLibrary, libraries_known, parts_of, start_pair_of, start_pair, LinesAreRead, Job, Synth, Run, Certify, Check, Shortest, Advise, Resilience, Command, On, Make, IsFree, TellsLosses, Accepted, document_opening, library_system, JobDoes, HasRun, Served, World, Status, WritesText, MAX_CELLS, KeepsJob, KeepsText}
+use Rattle.roman_top.proofs.Common.{◌≡◌, ℕ, ◌≤◌, List, [], Option, None, Some, sym, subst, arith, Texts, shelf_text, IsSys, IsPair, IsWithinCells, GreatestIsComplete, cells, library_of, PlainLibrary, libraries_known, parts_of, start_pair_of, start_pair, LinesAreRead, Job, Synth, Run, Certify, Check, Shortest, Advise, Resilience, Command, On, Make, IsFree, TellsLosses, Accepted, document_opening, library_system, JobDoes, HasRun, Served, World, Status, WritesText, MAX_CELLS, KeepsJob, KeepsText, told_more, work_of, accepted_is}
 use Rattle.roman_top.proofs.AdvisedLemmas.{keeps_advice}
 use Rattle.roman_top.proofs.CertifiedLemmas.{certifies_unrelated}
 use Rattle.roman_top.proofs.CheckedLemmas.{judges_certificate}
-use Rattle.roman_top.proofs.EndingLemmas.{told_more, work_of, accepted_is}
 use Rattle.roman_top.proofs.LossLemmas.{tells_losses}
 use Rattle.roman_top.proofs.MadeLemmas.{keeps_made}
 use Rattle.roman_top.proofs.StartsKnown.{library_parts}

@@ -1,6 +1,5 @@
 pub mod Common
 pub mod CheckLemmas
-pub mod EndingLemmas
 pub mod OpeningLemmas
 pub mod ServedLemmas
 pub mod SynthLemmas

@@ -1,7 +1,6 @@
 -- What a call does, derived from what its parts do.
-use Rattle.roman_top.proofs.Common.{◌≡◌, ◌≢◌, ℕ, List, [], Option, None, Some, Result, Ok, Err, inl, refl, sym, subst, arith, IsSome, HasCause, Rose, Texts, shelf_text, Puts, SinkCause, ShelfCause, InputCause, Job, Run, Command, On, Make, usage_line, Writes, EndsBare, Prints, EndsEarly, TurnsAway, Finishes, WritesPrefix, DoesJob, IsFree, HasRunPrefix, AtReadFault, AtWriteFault, AtMemory, AtShelfFault, EndsInput, IsOfTaken, document_opening, OnOpening, JobDoes, Makes, IsSessionText, HasRun, Talks, Runs, WithTexts, Served, ServedBeside, World, outputs, Outputs, beside, IsUnwritten, world, Status, Gave, Had, Gave-nil}
-use Rattle.roman_top.specs.declared.status.Status.TheVariants as status
-use Rattle.roman_top.proofs.EndingLemmas.{told_more, away_is_run}
+use Rattle.roman_opening.specs.declared.status.Status.TheVariants as status
+use Rattle.roman_top.proofs.Common.{◌≡◌, ◌≢◌, ℕ, List, [], Option, None, Some, Result, Ok, Err, inl, refl, sym, subst, arith, IsSome, HasCause, Rose, Texts, shelf_text, Puts, SinkCause, ShelfCause, InputCause, Job, Run, Command, On, Make, usage_line, Writes, EndsBare, Prints, EndsEarly, TurnsAway, Finishes, WritesPrefix, DoesJob, IsFree, HasRunPrefix, AtReadFault, AtWriteFault, AtMemory, AtShelfFault, EndsInput, IsOfTaken, document_opening, OnOpening, JobDoes, Makes, IsSessionText, HasRun, Talks, Runs, WithTexts, Served, ServedBeside, World, outputs, Outputs, beside, IsUnwritten, world, Status, Gave, Had, Gave-nil, told_more, away_is_run}
 
 -- equal commands do the same
 pub served_as : (asked other : Option Command) (old new : World) (result : Status) → asked ≡ other → Served other old new result → Served asked old new result

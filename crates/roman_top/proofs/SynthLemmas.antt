@@ -1,6 +1,5 @@
 -- Writing reports as part of a run.
-use Rattle.roman_top.proofs.Common.{◌≡◌, ℕ, List, Bool, true, false, sym, subst, arith, both_ways, is_related, related_great, great_related, PlainLibrary, Situation, present_system, IsSituation, report_text, IsStart, EndsBy, Synthesises, Status, status_of}
-use Rattle.roman_top.proofs.EndingLemmas.{IsSaid}
+use Rattle.roman_top.proofs.Common.{◌≡◌, ℕ, List, Bool, true, false, sym, subst, arith, both_ways, is_related, related_great, great_related, PlainLibrary, Situation, present_system, IsSituation, report_text, IsStart, EndsBy, Synthesises, Status, status_of, IsSaid}
 
 -- the status says whether the pair is related
 ends_by : (s : Situation) → IsSituation s → (related : Bool) → related ≡ is_related (present_system s) s.here → IsSaid (status_of related) × EndsBy (present_system s) s.here (status_of related)

@@ -1,9 +1,8 @@
 -- Sessions, as part of a run.
-use Rattle.roman_top.proofs.Common.{◌≡◌, ℕ, ◌+◌, ◌-◌, List, Option, None, Some, IfSome, Result, Ok, Err, IsTrue, refl, sym, subst, arith, inr, OnOk, IsErrOf, ◌⊎◌, if◌then◌else◌, cond-true, cond-false, Texts, rest_from, shelf_text, lines, MAX_SESSION_BYTES, PIECE_BYTES, Situation, IsStart, is_heard_out, GaveQuit, StreamState, stream_state, cursor, IsHeardOut, IsCutOff, GoesOn, StopsShort, TellsPrefixOfAll, CausedBy, heard_lines, Run, On, Accepts, OpensDocument, GoesOnFrom, HearsText, heard_status, HasRunPrefix, HasAnswered, HasPrefixOfTaken, IsOfSession, TakesInput, HasAnsweredPrefix, HasAnsweredInput, document_opening, Talks, IsSessionText, HasRun, Runs, Served, ServedBeside, World, Outputs, beside, Status, Had, IsAtEnd, GaveAtMost, Gave-told, AreBehaviours, HearError, short_out}
+use Rattle.roman_opening.specs.declared.status.Status.TheVariants as status
+use Rattle.roman_top.proofs.Common.{◌≡◌, ℕ, ◌+◌, ◌-◌, List, Option, None, Some, IfSome, Result, Ok, Err, IsTrue, refl, sym, subst, arith, inr, OnOk, IsErrOf, ◌⊎◌, if◌then◌else◌, cond-true, cond-false, Texts, rest_from, shelf_text, lines, MAX_SESSION_BYTES, PIECE_BYTES, Situation, IsStart, is_heard_out, GaveQuit, StreamState, stream_state, cursor, IsHeardOut, IsCutOff, GoesOn, StopsShort, TellsPrefixOfAll, CausedBy, heard_lines, Run, On, Accepts, OpensDocument, GoesOnFrom, HearsText, heard_status, HasRunPrefix, HasAnswered, HasPrefixOfTaken, IsOfSession, TakesInput, HasAnsweredPrefix, HasAnsweredInput, document_opening, Talks, IsSessionText, HasRun, Runs, Served, ServedBeside, World, Outputs, beside, Status, Had, IsAtEnd, GaveAtMost, Gave-told, AreBehaviours, HearError, short_out, told_more, on_accepted, told_known, opened_from}
 use Rattle.roman_hearing.specs.Told.{Told}
 use Rattle.roman_hearing.specs.declared.hearing.HearError.TheVariants as hear
-use Rattle.roman_top.specs.declared.status.Status.TheVariants as status
-use Rattle.roman_top.proofs.EndingLemmas.{told_more, on_accepted, told_known, opened_from}
 use Rattle.roman_top.proofs.ServedLemmas.{served_by}
 
 -- what a session from the input did

@@ -13,10 +13,10 @@ use Rattle.roman_cost.specs.AdviceText.{Advising, Unrelated, TooMany, Told, advi
 use Rattle.roman_cost.specs.Costs.{costs_of}
 use Rattle.roman_cost.specs.declared.costs.Listed.{Listed}
 use Rattle.roman_cost.specs.declared.limits.TheConstants.{MAX_VALUES}
-use Rattle.roman_top.specs.Opening.{EndsSaying, library_system, limit_line}
-use Rattle.roman_top.specs.RefusalLine.{refusal_line}
-use Rattle.roman_top.specs.declared.status.Status.{Status}
-use Rattle.roman_top.specs.declared.status.Status.TheVariants as status
+use Rattle.roman_opening.specs.Opening.{EndsSaying, library_system, limit_line}
+use Rattle.roman_opening.specs.RefusalLine.{refusal_line}
+use Rattle.roman_opening.specs.declared.status.Status.{Status}
+use Rattle.roman_opening.specs.declared.status.Status.TheVariants as status
 
 -- the text and status of `advise`: the pair isn't related, there are too many values, or the advice follows
 abbrev pub SaysAdvice : Advising → List ℕ → Status → Type 0

@@ -7,13 +7,13 @@ use Rattle.roman_model.specs.Certificate.{TooLong, cert_verdict}
 use Rattle.roman_library.specs.Library.{PlainLibrary}
 use Rattle.roman_start.specs.Starts.{start_pair_of}
 use Rattle.roman_hearing.specs.Hearing.{is_heard_out}
+use Rattle.roman_opening.specs.Opening.{Accepted, document_opening, library_system}
+use Rattle.roman_opening.specs.declared.status.Status.TheVariants as status
+use Rattle.roman_opening.specs.declared.status.Status.{Status}
 use Rattle.roman_top.specs.Command.{Job, Synth, Run, Certify, Check, Shortest, Advise, Resilience, Command, On, Make}
 use Rattle.roman_top.specs.Advice.{Affords}
-use Rattle.roman_top.specs.Opening.{Accepted, document_opening, library_system}
 use Rattle.roman_top.specs.Run.{WithTexts}
 use Rattle.roman_top.specs.World.{World}
-use Rattle.roman_top.specs.declared.status.Status.{Status}
-use Rattle.roman_top.specs.declared.status.Status.TheVariants as status
 
 -- the bytes of the session are known, and they are at most 16,777,216, or a line `quit` ends within that many
 abbrev pub IsShort : Option (List ℕ) → Type 0

@@ -6,13 +6,13 @@ use Rattle.roman_io.specs.Source.{Gave, Had, IsAtEnd, GaveAtMost}
 use Rattle.roman_model.specs.declared.limits.TheConstants.{MAX_SESSION_BYTES, PIECE_BYTES}
 use Rattle.roman_library.specs.Library.{PlainLibrary}
 use Rattle.roman_hearing.specs.Hearing.{AreWhole, GaveQuit}
+use Rattle.roman_opening.specs.Opening.{Accepted, document_opening}
+use Rattle.roman_opening.specs.declared.status.Status.TheVariants as status
+use Rattle.roman_opening.specs.declared.status.Status.{Status}
 use Rattle.roman_top.specs.Command.{Run, Command, On}
-use Rattle.roman_top.specs.Opening.{Accepted, document_opening}
 use Rattle.roman_top.specs.Run.{Runs, IsSessionText, WithTexts}
 use Rattle.roman_top.specs.Sessions.{GoesOnInSession}
 use Rattle.roman_top.specs.World.{World, IsUnwritten}
-use Rattle.roman_top.specs.declared.status.Status.{Status}
-use Rattle.roman_top.specs.declared.status.Status.TheVariants as status
 
 -- neither a fault nor running out of memory ended the run
 abbrev pub IsFree : Status → Type 0

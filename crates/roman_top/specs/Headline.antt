@@ -4,13 +4,13 @@ use Rattle.roman_io.specs.Sink.{Wrote}
 use Rattle.roman_library.specs.Library.{PlainLibrary}
 use Rattle.roman_session.specs.States.{start_state, IsState}
 use Rattle.roman_session.specs.Words.{ReportsGreat}
+use Rattle.roman_opening.specs.declared.status.Status.{Status}
 use Rattle.roman_top.specs.Command.{Synth, Run, Command, On}
 use Rattle.roman_top.specs.Faults.{IsFree}
 use Rattle.roman_top.specs.HeadlineJobs.{KeepsText}
 use Rattle.roman_top.specs.HeadlineTargets.{KeepsTargets}
 use Rattle.roman_top.specs.HeadlineTurns.{Means, HasAnsweredLines}
 use Rattle.roman_top.specs.World.{World}
-use Rattle.roman_top.specs.declared.status.Status.{Status}
 
 -- the report on the library's state was written
 pub record HasReported (library : PlainLibrary) (old new : World) : Type 0 where

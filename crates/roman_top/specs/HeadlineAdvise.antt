@@ -17,10 +17,10 @@ use Rattle.roman_cost.specs.Laws.{TellsLeast}
 use Rattle.roman_cost.specs.Tables.{seat_costs}
 use Rattle.roman_cost.specs.declared.costs.Listed.{Listed}
 use Rattle.roman_cost.specs.declared.limits.TheConstants.{MAX_VALUES}
-use Rattle.roman_top.specs.Opening.{EndsSaying, limit_line}
-use Rattle.roman_top.specs.RefusalLine.{refusal_line}
-use Rattle.roman_top.specs.declared.status.Status.{Status}
-use Rattle.roman_top.specs.declared.status.Status.TheVariants as status
+use Rattle.roman_opening.specs.Opening.{EndsSaying, limit_line}
+use Rattle.roman_opening.specs.RefusalLine.{refusal_line}
+use Rattle.roman_opening.specs.declared.status.Status.{Status}
+use Rattle.roman_opening.specs.declared.status.Status.TheVariants as status
 
 -- what is written with accepted costs: `answer none` if the pair isn't related; the line of the limit if the related pairs times
 -- the requests are too many; and otherwise the least worst cost of the requests

@@ -11,9 +11,9 @@ use Rattle.roman_model.specs.declared.reason.Reason.{Reason}
 use Rattle.roman_model.specs.declared.reason.Reason.TheVariants.{Final, Act}
 use Rattle.roman_library.specs.Library.{PlainLibrary}
 use Rattle.roman_model.specs.Outcomes.{LeadsTo}
-use Rattle.roman_top.specs.Opening.{library_system}
-use Rattle.roman_top.specs.declared.status.Status.{Status}
-use Rattle.roman_top.specs.declared.status.Status.TheVariants as status
+use Rattle.roman_opening.specs.Opening.{library_system}
+use Rattle.roman_opening.specs.declared.status.Status.{Status}
+use Rattle.roman_opening.specs.declared.status.Status.TheVariants as status
 
 -- the reason holds at the pair: the target is final and the system isn't; or the target allows the action, and each seat has no outcome
 -- on it or one that is gone

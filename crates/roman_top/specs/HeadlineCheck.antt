@@ -11,11 +11,11 @@ use Rattle.roman_model.specs.Certificate.{Why, entry_of}
 use Rattle.roman_model.specs.Numbers.{entry_at}
 use Rattle.roman_library.specs.Library.{PlainLibrary}
 use Rattle.roman_start.specs.Starts.{start_pair_of}
+use Rattle.roman_opening.specs.Opening.{library_system}
+use Rattle.roman_opening.specs.declared.status.Status.TheVariants as status
+use Rattle.roman_opening.specs.declared.status.Status.{Status}
 use Rattle.roman_top.specs.HeadlineCertify.{ListsUnrelated, CertifiesUnrelated}
-use Rattle.roman_top.specs.Opening.{library_system}
 use Rattle.roman_top.specs.Verdicts.{greatest_text, rejected_text}
-use Rattle.roman_top.specs.declared.status.Status.{Status}
-use Rattle.roman_top.specs.declared.status.Status.TheVariants as status
 
 -- the text says how many pairs are related, and whether the given pair is
 pub record TellsGreatest (s : Sys) (p : Pair) (text : List ℕ) : Type 0 where

@@ -4,17 +4,17 @@ use Rattle.roman_io.specs.Shelf.{Texts, shelf_text}
 use Rattle.roman_library.specs.Library.{PlainLibrary}
 use Rattle.roman_start.specs.Starts.{start_pair_of}
 use Rattle.roman_rank.specs.DepthText.{TellsDepths}
+use Rattle.roman_opening.specs.Endings.{WritesText}
+use Rattle.roman_opening.specs.Opening.{Accepted, document_opening, library_system}
+use Rattle.roman_opening.specs.declared.status.Status.TheVariants as status
+use Rattle.roman_opening.specs.declared.status.Status.{Status}
 use Rattle.roman_top.specs.Command.{Job, Certify, Check, Shortest, Advise, Resilience, Command, On, Make}
-use Rattle.roman_top.specs.Endings.{WritesText}
 use Rattle.roman_top.specs.HeadlineAdvise.{KeepsAdvice}
 use Rattle.roman_top.specs.HeadlineCertify.{KeepsCertificate}
 use Rattle.roman_top.specs.HeadlineCheck.{KeepsVerdict}
 use Rattle.roman_top.specs.HeadlineMake.{KeepsMade}
 use Rattle.roman_top.specs.HeadlineResilience.{KeepsResilience}
-use Rattle.roman_top.specs.Opening.{Accepted, document_opening, library_system}
 use Rattle.roman_top.specs.World.{World}
-use Rattle.roman_top.specs.declared.status.Status.{Status}
-use Rattle.roman_top.specs.declared.status.Status.TheVariants as status
 
 -- shortest: the text gives the depths of the library's pairs, and for its starting states the least number of requests within which
 -- the opponent wins against every delegation

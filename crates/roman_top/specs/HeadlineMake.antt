@@ -8,10 +8,10 @@ use Rattle.roman_joint.specs.NamedSys.{system_of}
 use Rattle.roman_library.specs.Library.{PlainLibrary}
 use Rattle.roman_session.specs.States.{State, start_state, IsGreat}
 use Rattle.roman_make.specs.Made.{made}
+use Rattle.roman_opening.specs.declared.status.Status.TheVariants as status
+use Rattle.roman_opening.specs.declared.status.Status.{Status}
 use Rattle.roman_top.specs.HeadlineTurns.{Turn, AreTurns, after_turns}
 use Rattle.roman_top.specs.Made.{stage_line, stages, made_line}
-use Rattle.roman_top.specs.declared.status.Status.{Status}
-use Rattle.roman_top.specs.declared.status.Status.TheVariants as status
 
 -- a line says how many pairs the present system has, how many are related, and whether the current one is
 pub record TellsStanding (word : List ℕ) (s : State) (text : List ℕ) : Type 0 where

@@ -11,10 +11,10 @@ use Rattle.roman_model.specs.declared.way.Way.TheVariants.{Freeze, Die}
 use Rattle.roman_joint.specs.NamedSys.{NamedSys}
 use Rattle.roman_library.specs.Library.{PlainLibrary}
 use Rattle.roman_start.specs.Starts.{parts_of, start_pair_of}
-use Rattle.roman_top.specs.Opening.{library_system}
+use Rattle.roman_opening.specs.Opening.{library_system}
+use Rattle.roman_opening.specs.declared.status.Status.TheVariants as status
+use Rattle.roman_opening.specs.declared.status.Status.{Status}
 use Rattle.roman_top.specs.Outlooks.{line_without, ones, twos, head_text}
-use Rattle.roman_top.specs.declared.status.Status.{Status}
-use Rattle.roman_top.specs.declared.status.Status.TheVariants as status
 
 -- a pair, an action that is requested there, and a seat
 pub record Serving : Type 0 where

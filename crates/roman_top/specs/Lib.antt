@@ -7,10 +7,7 @@ pub mod Endings
 pub mod Faults
 pub mod Headline
 pub mod Made
-pub mod Numbers
-pub mod Opening
 pub mod Outlooks
-pub mod RefusalLine
 pub mod Run
 pub mod Served
 pub mod Sessions

@@ -13,16 +13,16 @@ use Rattle.roman_session.specs.Reports.{report_text}
 use Rattle.roman_start.specs.Starts.{parts_of, start_pair_of}
 use Rattle.roman_hearing.specs.Hearing.{heard_lines, is_heard_out}
 use Rattle.roman_rank.specs.DepthText.{TellsDepths}
+use Rattle.roman_opening.specs.Opening.{EndsSaying, library_system, document_opening, OnOpening}
+use Rattle.roman_opening.specs.declared.status.Status.TheVariants as status
+use Rattle.roman_opening.specs.declared.status.Status.{Status}
 use Rattle.roman_top.specs.Command.{Job, Synth, Run, Certify, Check, Shortest, Advise, Resilience, Command, On, Make, usage_line}
 use Rattle.roman_top.specs.Advice.{GivesAdvice}
 use Rattle.roman_top.specs.Made.{Summarises}
-use Rattle.roman_top.specs.Opening.{EndsSaying, library_system, document_opening, OnOpening}
 use Rattle.roman_top.specs.Outlooks.{outlook_text}
 use Rattle.roman_top.specs.Sessions.{ToldFromStart}
 use Rattle.roman_top.specs.Verdicts.{greatest_text, rejected_text}
 use Rattle.roman_top.specs.World.{World}
-use Rattle.roman_top.specs.declared.status.Status.{Status}
-use Rattle.roman_top.specs.declared.status.Status.TheVariants as status
 
 -- ---- what each command does; a job has an accepted document within its limit
 

@@ -1,12 +1,14 @@
 -- What a call of `serve` does, given its words and the outside before and after it.
 use Rattle.std.specs.Prelude.{◌≡◌, ℕ, List, Option}
+use Rattle.roman_opening.specs.Causes.{ShelfCause, SinkCause}
+use Rattle.roman_opening.specs.Outputs.{Outputs}
+use Rattle.roman_opening.specs.declared.status.Status.TheVariants as status
+use Rattle.roman_opening.specs.declared.status.Status.{Status}
 use Rattle.roman_top.specs.Command.{Command}
 use Rattle.roman_top.specs.Run.{WithTexts, HasRun}
-use Rattle.roman_top.specs.Causes.{ShelfCause, InputCause, SinkCause}
+use Rattle.roman_top.specs.Causes.{InputCause}
 use Rattle.roman_top.specs.Faults.{IsFree, AtShelfFault, AtReadFault, AtWriteFault, AtMemory, EndsInput}
-use Rattle.roman_top.specs.World.{World, Outputs, beside}
-use Rattle.roman_top.specs.declared.status.Status.{Status}
-use Rattle.roman_top.specs.declared.status.Status.TheVariants as status
+use Rattle.roman_top.specs.World.{World, beside}
 
 -- unless a fault or running out of memory ended it, the call is a run; after each such end, what was written; which counts of faults
 -- rose; what the input has left after a session from it; and that the shelf's texts are the same

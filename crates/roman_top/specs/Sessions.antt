@@ -9,7 +9,7 @@ use Rattle.roman_session.specs.Starts.{IsStart}
 use Rattle.roman_hearing.specs.Known.{IsKnownSituation}
 use Rattle.roman_hearing.specs.Told.{Told}
 use Rattle.roman_hearing.specs.Hearing.{has_quit}
-use Rattle.roman_top.specs.Opening.{Accepted, document_opening}
+use Rattle.roman_opening.specs.Opening.{Accepted, document_opening}
 
 -- a session of an accepted document within its limit starts in a well-formed situation
 abbrev pub StartsAreKnown : Type 0

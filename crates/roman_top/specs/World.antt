@@ -2,6 +2,7 @@
 use Rattle.std.specs.Prelude.{ℕ, List, [], Option}
 use Rattle.roman_io.specs.Shelf.{Texts}
 use Rattle.roman_io.specs.Sink.{Wrote}
+use Rattle.roman_opening.specs.Outputs.{Outputs}
 
 -- the shelf's texts, the bytes that the input has left, what was written, and how often each has failed
 pub record World : Type 0 where
@@ -22,17 +23,6 @@ world texts shelf_faults rest input_faults written out_faults = record {
   input_faults = input_faults;
   out_faults = out_faults;
 }
-
--- the shelf and the sink alone
-pub record Outputs : Type 0 where
-  pub texts : Option Texts
-  pub written : Option (List ℕ)
-  pub shelf_faults : ℕ
-  pub out_faults : ℕ
-
--- the shelf and the sink from their parts
-abbrev pub outputs : Option Texts → ℕ → Option (List ℕ) → ℕ → Outputs
-outputs texts shelf_faults written out_faults = record { texts = texts; written = written; shelf_faults = shelf_faults; out_faults = out_faults }
 
 -- the outside with this shelf, this sink and an input from its parts
 abbrev pub beside : Outputs → Option (List ℕ) → ℕ → World

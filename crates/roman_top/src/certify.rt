@@ -1,12 +1,11 @@
 //! The command `certify SYSTEM`.
+ghost use Rattle.roman_opening.specs.Outputs.{outputs};
 ghost use Rattle.roman_top.specs.Command.{Certify};
 ghost use Rattle.roman_top.specs.Endings.{DoesJob};
-ghost use Rattle.roman_top.specs.World.{outputs};
 
-use crate::opening::open_relation;
-use crate::status::{Status, finish};
 use roman_cert::write_order;
 use roman_io::{Shelf, Sink, Steps};
+use roman_opening::{Status, finish, open_relation};
 use std::alloc::Global;
 use std::sync::ledger::Ledger;
 

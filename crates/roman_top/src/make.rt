@@ -2,11 +2,11 @@
 ghost use Rattle.roman_top.specs.Endings.{Prints};
 ghost use Rattle.roman_top.specs.Run.{Makes};
 
-use crate::status::{Status, finish};
 use crate::summary::{put_summary, run_script};
 use crate::workers::Workers;
 use roman_io::{Sink, Steps};
 use roman_make::{MakeError, make};
+use roman_opening::{Status, finish};
 use roman_session::{BuildError, Session};
 use std::alloc::Global;
 use std::sync::ledger::Ledger;

@@ -1,12 +1,11 @@
 //! The command `resilience SYSTEM`.
+ghost use Rattle.roman_opening.specs.Outputs.{outputs};
 ghost use Rattle.roman_top.specs.Command.{Resilience};
 ghost use Rattle.roman_top.specs.Endings.{DoesJob};
-ghost use Rattle.roman_top.specs.World.{outputs};
 
-use crate::opening::open_relation;
 use crate::outlooks::put_outlooks;
-use crate::status::{Status, finish};
 use roman_io::{Shelf, Sink, Steps};
+use roman_opening::{Status, finish, open_relation};
 use roman_whatif::Losses;
 use std::alloc::Global;
 use std::sync::ledger::Ledger;

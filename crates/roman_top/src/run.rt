@@ -16,12 +16,12 @@ use crate::command::{Command, command_of};
 use crate::make::summarise;
 use crate::resilience::foresee;
 use crate::shortest::shortest;
-use crate::status::{Status, finish};
 use crate::synth::synthesise;
 use crate::talking::{talk_input, talk_shelf};
 use roman_hearing::lines_are_read;
 use roman_io::{Failed, Shelf, Sink, Source, Steps, Words};
 use roman_model::greatest_is_complete;
+use roman_opening::{Status, finish};
 use std::alloc::Global;
 use std::sync::ledger::Ledger;
 

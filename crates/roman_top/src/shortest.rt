@@ -1,11 +1,10 @@
 //! The command `shortest SYSTEM`.
+ghost use Rattle.roman_opening.specs.Outputs.{outputs};
 ghost use Rattle.roman_top.specs.Command.{Shortest};
 ghost use Rattle.roman_top.specs.Endings.{DoesJob};
-ghost use Rattle.roman_top.specs.World.{outputs};
 
-use crate::opening::open_relation;
-use crate::status::{Status, finish};
 use roman_io::{Shelf, Sink, Steps};
+use roman_opening::{Status, finish, open_relation};
 use roman_rank::{Ranks, write_depths};
 use std::alloc::Global;
 use std::sync::ledger::Ledger;

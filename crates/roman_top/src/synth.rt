@@ -1,12 +1,11 @@
 //! The command `synth SYSTEM`.
 ghost use Rattle.std.specs.Prelude.{◌≡◌};
+ghost use Rattle.roman_opening.specs.Outputs.{outputs};
 ghost use Rattle.roman_top.specs.Command.{Synth};
 ghost use Rattle.roman_top.specs.Endings.{DoesJob, status_of};
-ghost use Rattle.roman_top.specs.World.{outputs};
 
-use crate::opening::open_session;
-use crate::status::{Status, finish};
 use roman_io::{Shelf, Sink, Steps};
+use roman_opening::{Status, finish, open_session};
 use std::alloc::Global;
 use std::sync::ledger::Ledger;
 

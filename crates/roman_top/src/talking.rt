@@ -2,16 +2,16 @@
 ghost use Rattle.std.specs.Prelude.{◌≡◌, ◌⊎◌, None, Some};
 ghost use Rattle.roman_io.specs.Shelf.{rest_from};
 ghost use Rattle.roman_hearing.specs.Hearing.{stream_state, cursor, CausedBy};
+ghost use Rattle.roman_opening.specs.Outputs.{outputs};
 ghost use Rattle.roman_top.specs.Command.{Run, On};
 ghost use Rattle.roman_top.specs.Endings.{HearsText, heard_status};
 ghost use Rattle.roman_top.specs.Faults.{TakesInput};
 ghost use Rattle.roman_top.specs.Served.{Served, ServedBeside};
-ghost use Rattle.roman_top.specs.World.{world, outputs};
+ghost use Rattle.roman_top.specs.World.{world};
 
-use crate::opening::open_session;
-use crate::status::Status;
 use roman_hearing::{HearError, hear};
 use roman_io::{Shelf, ShelfSource, Sink, Source, Steps};
+use roman_opening::{Status, open_session};
 use roman_session::Session;
 use std::alloc::Global;
 use std::sync::ledger::Ledger;

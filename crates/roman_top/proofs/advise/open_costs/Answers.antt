@@ -1,9 +1,8 @@
-use Rattle.roman_top.proofs.Common.{List, ℕ, EndsSaying, OnCosts, Status, costs_of, place_of_rule, refusal_line, refusal_of}
+use Rattle.roman_opening.specs.declared.status.Status.TheVariants as status
+use Rattle.roman_top.proofs.Common.{List, ℕ, EndsSaying, OnCosts, Status, costs_of, place_of_rule, refusal_line, refusal_of, told_more, same_outputs, opens_fault, opens_none}
 use Rattle.roman_library.specs.declared.refusal.Part.TheVariants as part
 use Rattle.roman_parts.specs.declared.error.PartError.TheVariants as part_error
-use Rattle.roman_top.specs.declared.status.Status.TheVariants as status
-use Rattle.roman_top.proofs.EndingLemmas.{told_more}
-use Rattle.roman_top.proofs.OpeningLemmas.{early_from, same_outputs, opens_fault, opens_none}
+use Rattle.roman_top.proofs.OpeningLemmas.{early_from}
 use Rattle.roman_top.proofs.advise.open_costs.Goals as goal
 
 pub returns-in-Ok-clause-opens : goal.returns-in-Ok-clause-opens

@@ -1,6 +1,6 @@
+use Rattle.roman_opening.specs.declared.status.Status.TheVariants as status
 use Rattle.roman_top.proofs.Common.{ℕ, Err, false, refl, sym, ap, ◌∙◌, subst, limit_line, MAX_VALUES, sizes_of, pair_at, system_of, Told, advice_text, advised_by, Advising, line_text, SaysAdvice}
 use Rattle.roman_text.specs.declared.report.ReportLine.TheVariants as line
-use Rattle.roman_top.specs.declared.status.Status.TheVariants as status
 use Rattle.roman_top.proofs.AdviseLemmas.{told_related, advised_unrelated, advised_many, advised_told, few_values}
 use Rattle.roman_top.proofs.OpeningLemmas.{says_ends}
 use Rattle.roman_top.proofs.advise.tell_relation.Goals as goal

@@ -1,5 +1,5 @@
+use Rattle.roman_opening.specs.declared.status.Status.TheVariants as status
 use Rattle.roman_top.proofs.Common.{refl, Pair, NamedSys, system_of, sizes_of, count, cert_text, Certify, CertifiesSystem}
-use Rattle.roman_top.specs.declared.status.Status.TheVariants as status
 use Rattle.roman_top.proofs.OpeningLemmas.{related_does, says_ends}
 use Rattle.roman_top.proofs.certify.certify.Goals as goal
 

@@ -1,5 +1,5 @@
+use Rattle.roman_opening.specs.declared.status.Status.TheVariants as status
 use Rattle.roman_top.proofs.Common.{refl, fault_of, verdict_of, SaysVerdict, greatest_text, rejected_text}
-use Rattle.roman_top.specs.declared.status.Status.TheVariants as status
 use Rattle.roman_top.proofs.OpeningLemmas.{says_ends}
 use Rattle.roman_top.proofs.check.tell.Goals as goal
 

@@ -1,7 +1,6 @@
-use Rattle.roman_top.proofs.Common.{Err, [], rules, refl, ap, Wrote-nil, numbered, length-below, system_of, IsTooLong, TooLong, WritesText}
-use Rattle.roman_top.specs.declared.status.Status.TheVariants as status
+use Rattle.roman_opening.specs.declared.status.Status.TheVariants as status
+use Rattle.roman_top.proofs.Common.{Err, [], rules, refl, ap, Wrote-nil, numbered, length-below, system_of, IsTooLong, TooLong, WritesText, told_more}
 use Rattle.roman_top.proofs.CheckLemmas.{found}
-use Rattle.roman_top.proofs.EndingLemmas.{told_more}
 use Rattle.roman_top.proofs.check.verdict_on.Goals as goal
 
 pub check-requires : goal.check-requires

@@ -1,5 +1,5 @@
+use Rattle.roman_opening.specs.declared.status.Status.TheVariants as status
 use Rattle.roman_top.proofs.Common.{refl, ◌++◌, plain, Makes, made_line, lines_of}
-use Rattle.roman_top.specs.declared.status.Status.TheVariants as status
 use Rattle.roman_top.proofs.MakeLemmas.{made_start, not_past_limit}
 use Rattle.roman_top.proofs.OpeningLemmas.{says_ends}
 use Rattle.roman_top.proofs.make.summarise.Goals as goal

@@ -1,5 +1,5 @@
+use Rattle.roman_opening.specs.declared.status.Status.TheVariants as status
 use Rattle.roman_top.proofs.Common.{refl, Pair, NamedSys, system_of, Resilience, EndsSaying, outlook_text, pair_at, sizes_of}
-use Rattle.roman_top.specs.declared.status.Status.TheVariants as status
 use Rattle.roman_top.proofs.OpeningLemmas.{related_does, says_ends}
 use Rattle.roman_top.proofs.resilience.foresee.Goals as goal
 

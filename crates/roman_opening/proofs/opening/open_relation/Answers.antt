@@ -1,7 +1,7 @@
-use Rattle.roman_top.proofs.Common.{refl, Accepts, IsRelated, IsRelation}
-use Rattle.roman_top.proofs.EndingLemmas.{told_more}
-use Rattle.roman_top.proofs.OpeningLemmas.{opens_none, relation_is}
-use Rattle.roman_top.proofs.opening.open_relation.Goals as goal
+use Rattle.roman_opening.proofs.Common.{refl, Accepts, IsRelated, IsRelation}
+use Rattle.roman_opening.proofs.EndingLemmas.{told_more}
+use Rattle.roman_opening.proofs.OpeningLemmas.{opens_none, relation_is}
+use Rattle.roman_opening.proofs.opening.open_relation.Goals as goal
 
 pub returns-in-Ok-build-clause-opens : goal.returns-in-Ok-build-clause-opens
 returns-in-Ok-build-clause-opens g c =

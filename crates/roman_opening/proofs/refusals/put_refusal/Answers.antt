@@ -1,5 +1,5 @@
-use Rattle.roman_top.proofs.Common.{◌≡◌, ℕ, List, [], ◌++◌, codes, refl, ◌∙◌, append_assoc, append-nil, err_from_is_err_and, fill_whole, fill_more, fill_failed, fill_put, Refusal, refusal_line, rule_text}
-use Rattle.roman_top.proofs.refusals.put_refusal.Goals as goal
+use Rattle.roman_opening.proofs.Common.{◌≡◌, ℕ, List, [], ◌++◌, codes, refl, ◌∙◌, append_assoc, append-nil, err_from_is_err_and, fill_whole, fill_more, fill_failed, fill_put, Refusal, refusal_line, rule_text}
+use Rattle.roman_opening.proofs.refusals.put_refusal.Goals as goal
 
 regroup : (a b c : List ℕ) → a ++ (b ++ (c ++ [])) ≡ a ++ b ++ c
 regroup a b c = simp (append_assoc, append-nil)

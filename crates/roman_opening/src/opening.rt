@@ -5,9 +5,8 @@ ghost use Rattle.roman_library.specs.Library.{PlainLibrary, IsLibrary, plain};
 ghost use Rattle.roman_start.specs.Seating.{IsSeated};
 ghost use Rattle.roman_session.specs.Starts.{IsStart};
 ghost use Rattle.roman_hearing.specs.Known.{AreBehaviours};
-ghost use Rattle.roman_top.specs.Endings.{IsRelated, MeansLibrary, Opens, OpensDocument, TurnsAway};
-ghost use Rattle.roman_top.specs.Sessions.{StartsAreKnown};
-ghost use Rattle.roman_top.specs.World.{outputs};
+ghost use Rattle.roman_opening.specs.Endings.{IsRelated, MeansLibrary, Opens, OpensDocument, TurnsAway};
+ghost use Rattle.roman_opening.specs.Outputs.{outputs};
 
 use crate::limits::put_limit;
 use crate::refusals::put_refusal;
@@ -23,17 +22,17 @@ use std::sync::ledger::Ledger;
 
 /// A system as its greatest relation.
 #[derive(Drop)]
-pub(crate) struct Related {
+pub struct Related {
     /// The relation.
-    pub(crate) relation: Relation,
+    pub relation: Relation,
     /// The number of the start pair.
-    pub(crate) start: u32,
+    pub start: u32,
 }
 
 /// Loads the document `name`, and builds the joint of its system with the start pair. If that fails,
 /// returns the status with which the run ends, and writes the line of a refusal or of an exceeded
 /// limit.
-pub(crate) fn open_system<F: Shelf, O: Sink>(
+pub fn open_system<F: Shelf, O: Sink>(
     alloc: Global,
     name: &str,
     shelf: &mut F,
@@ -59,7 +58,7 @@ pub(crate) fn open_system<F: Shelf, O: Sink>(
 
 /// Loads the document `name`, and builds the greatest relation of its system. If that fails, returns
 /// the status with which the run ends, and writes the line of a refusal or of an exceeded limit.
-pub(crate) fn open_relation<F: Shelf, O: Sink, L: Ledger>(
+pub fn open_relation<F: Shelf, O: Sink, L: Ledger>(
     alloc: Global,
     name: &str,
     shelf: &mut F,
@@ -83,7 +82,7 @@ pub(crate) fn open_relation<F: Shelf, O: Sink, L: Ledger>(
 
 /// Loads the document `name`, and begins a session of its system. If that fails, returns the status
 /// with which the run ends, and writes the line of a refusal or of an exceeded limit.
-pub(crate) fn open_session<F: Shelf, O: Sink, L: Ledger>(
+pub fn open_session<F: Shelf, O: Sink, L: Ledger>(
     alloc: Global,
     name: &str,
     shelf: &mut F,
@@ -106,11 +105,6 @@ pub(crate) fn open_session<F: Shelf, O: Sink, L: Ledger>(
         Err(BuildError::Memory) => Err(Status::Memory),
     }
 }
-
-/// Law: a session of an accepted document within its limit starts in a well-formed situation.
-pub fn starts_are_known()
-    ensures known { StartsAreKnown }
-{}
 
 /// Loads the library of the document `name`. If that fails, returns the status with which the run
 /// ends, and writes the line of a refusal.

@@ -1,13 +1,13 @@
 //! The line that reports an exceeded limit.
 ghost use Rattle.roman_io.specs.Faults.{HasCause};
 ghost use Rattle.roman_io.specs.Sink.{Puts};
-ghost use Rattle.roman_top.specs.Opening.{limit_line};
+ghost use Rattle.roman_opening.specs.Opening.{limit_line};
 
 use roman_io::{Failed, Sink};
 use roman_text::Piece;
 
 /// Writes the line `limit N`.
-pub(crate) fn put_limit<O: Sink>(limit: u32, out: &mut O) -> Result<(), Failed>
+pub fn put_limit<O: Sink>(limit: u32, out: &mut O) -> Result<(), Failed>
     ensures puts { Puts (O.written out.old) (O.written out.new) (limit_line limit) result }
     ensures cause { HasCause (O.faults out.old) (O.faults out.new) result }
 {

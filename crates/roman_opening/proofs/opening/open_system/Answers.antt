@@ -1,11 +1,11 @@
-use Rattle.roman_top.proofs.Common.{plain, IsStart}
-use Rattle.roman_top.proofs.OpeningLemmas.{opens_none, opens_ok, opens_past_limit}
-use Rattle.roman_top.proofs.opening.open_session.Goals as goal
+use Rattle.roman_opening.proofs.Common.{plain, IsSeated}
+use Rattle.roman_opening.proofs.OpeningLemmas.{opens_none, opens_ok, opens_past_limit}
+use Rattle.roman_opening.proofs.opening.open_system.Goals as goal
 
-pub returns-in-Ok-build-clause-opens : goal.returns-in-Ok-build-clause-opens
-returns-in-Ok-build-clause-opens g c =
+pub returns-in-Ok-seat_library-clause-opens : goal.returns-in-Ok-seat_library-clause-opens
+returns-in-Ok-seat_library-clause-opens g c =
     let read = c.in-Ok.ensures.reads in
-    opens_ok IsStart c.in-Ok-build.session c.args.name.now (plain c.in-Ok.library) _ _ read.holds read.same c.in-Ok-build.ensures.limit c.in-Ok-build.ensures.start
+    opens_ok IsSeated c.in-Ok-seat_library.seated c.args.name.now (plain c.in-Ok.library) _ _ read.holds read.same c.in-Ok-seat_library.ensures.limit c.in-Ok-seat_library.ensures.seated
 
 pub returns-in-Err-Limit-clause-opens : goal.returns-in-Err-Limit-clause-opens
 returns-in-Err-Limit-clause-opens g c =

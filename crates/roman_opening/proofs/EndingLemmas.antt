@@ -1,6 +1,6 @@
 -- How the parts of a run end.
-use Rattle.roman_top.proofs.Common.{◌≡◌, ℕ, IsTrue, IsFalse, List, [], Option, None, Some, IfSome, Result, Ok, Err, sym, ap, ◌∙◌, subst, arith, refl, ◌≤◌, cond-true, cond-false, le-ltb, HasCause, Texts, Puts, Wrote-nil, cells, PlainLibrary, Refusal, WritesText, WritesPrefix, Writes, Ends, Opened, Finishes, Accepted, OnOpening, library_system, is_past_limit, Past, opening_of, Opening, Refused, Status, Outputs, outputs}
-use Rattle.roman_top.specs.declared.status.Status.TheVariants as status
+use Rattle.roman_opening.proofs.Common.{◌≡◌, ℕ, IsTrue, IsFalse, List, Option, None, Some, IfSome, Result, Ok, Err, sym, ap, ◌∙◌, subst, arith, refl, ◌≤◌, cond-true, cond-false, le-ltb, HasCause, Texts, Puts, Wrote-nil, cells, PlainLibrary, Refusal, WritesText, WritesPrefix, Writes, Ends, Opened, Finishes, Accepted, OnOpening, library_system, is_past_limit, Past, opening_of, Opening, Refused, Status, Outputs, outputs}
+use Rattle.roman_opening.specs.declared.status.Status.TheVariants as status
 
 -- properties of the value that an option may hold
 pub told_more : {X : Type 0} (o : Option X) (P Q : X → Type 0) → IfSome o P → ((x : X) → P x → Q x) → IfSome o Q

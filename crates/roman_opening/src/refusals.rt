@@ -2,7 +2,7 @@
 ghost use Rattle.std.specs.Prelude.{◌≡◌, ◌≤◌, length};
 ghost use Rattle.roman_io.specs.Faults.{HasCause};
 ghost use Rattle.roman_io.specs.Sink.{Puts};
-ghost use Rattle.roman_top.specs.RefusalLine.{refusal_line, kind_word, part_word, part_number, list_word, choice_words, rule_text};
+ghost use Rattle.roman_opening.specs.RefusalLine.{refusal_line, kind_word, part_word, part_number, list_word, choice_words, rule_text};
 
 use roman_io::{Failed, Sink};
 use roman_library::{Part, Refusal};
@@ -12,7 +12,7 @@ use roman_text::{Page, Piece};
 
 /// Writes `refused DOCUMENT KIND PART NUMBER LIST INDEX` and a newline. For a choice, the number of
 /// the earlier transition and the name of the environment state stand before the newline.
-pub(crate) fn put_refusal<O: Sink>(refusal: &Refusal, out: &mut O) -> Result<(), Failed>
+pub fn put_refusal<O: Sink>(refusal: &Refusal, out: &mut O) -> Result<(), Failed>
     ensures puts { Puts (O.written out.old) (O.written out.new) (refusal_line refusal.now) result }
     ensures cause { HasCause (O.faults out.old) (O.faults out.new) result }
 {

@@ -1,7 +1,7 @@
 //! The statuses with which a run ends.
 ghost use Rattle.std.specs.Prelude.{◌≡◌};
-ghost use Rattle.roman_top.specs.Numbers.{status_number};
-ghost use Rattle.roman_top.specs.Endings.{Finishes};
+ghost use Rattle.roman_opening.specs.Numbers.{status_number};
+ghost use Rattle.roman_opening.specs.Endings.{Finishes};
 
 use roman_io::Failed;
 
@@ -62,7 +62,7 @@ impl Status {
 }
 
 /// Returns `status` if the text was put, and `WriteFault` if the sink failed.
-pub(crate) fn finish(put: Result<(), Failed>, status: Status) -> Status
+pub fn finish(put: Result<(), Failed>, status: Status) -> Status
     ensures { Finishes put status result }
 {
     match put {

@@ -7,9 +7,9 @@ use Rattle.roman_library.specs.Library.{PlainLibrary}
 use Rattle.roman_library.specs.declared.refusal.Refusal.{Refusal}
 use Rattle.roman_joint.specs.NamedSys.{system_of, cells}
 use Rattle.roman_start.specs.Starts.{parts_of}
-use Rattle.roman_top.specs.RefusalLine.{refusal_line}
-use Rattle.roman_top.specs.declared.status.Status.{Status}
-use Rattle.roman_top.specs.declared.status.Status.TheVariants as status
+use Rattle.roman_opening.specs.RefusalLine.{refusal_line}
+use Rattle.roman_opening.specs.declared.status.Status.{Status}
+use Rattle.roman_opening.specs.declared.status.Status.TheVariants as status
 
 -- the run writes this text and ends with this status
 abbrev pub EndsSaying : List ℕ → Status → List ℕ → Status → Type 0

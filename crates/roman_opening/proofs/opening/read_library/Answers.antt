@@ -1,8 +1,8 @@
-use Rattle.roman_top.proofs.Common.{refl, refusal_line, TurnsAway}
-use Rattle.roman_top.specs.declared.status.Status.TheVariants as status
-use Rattle.roman_top.proofs.EndingLemmas.{told_more}
-use Rattle.roman_top.proofs.OpeningLemmas.{same_outputs, opens_fault, opens_line, opens_none}
-use Rattle.roman_top.proofs.opening.read_library.Goals as goal
+use Rattle.roman_opening.proofs.Common.{refl, refusal_line, TurnsAway}
+use Rattle.roman_opening.specs.declared.status.Status.TheVariants as status
+use Rattle.roman_opening.proofs.EndingLemmas.{told_more}
+use Rattle.roman_opening.proofs.OpeningLemmas.{same_outputs, opens_fault, opens_line, opens_none}
+use Rattle.roman_opening.proofs.opening.read_library.Goals as goal
 
 pub returns-in-Ok-clause-reads : goal.returns-in-Ok-clause-reads
 returns-in-Ok-clause-reads g c = record { holds = c.in-Ok.ensures.meaning; same = same_outputs _ _ _ _ _ _ c.load.ensures.texts c.in-Ok.ensures.cause }

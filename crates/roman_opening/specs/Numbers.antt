@@ -1,7 +1,7 @@
 -- The exit statuses of the program.
 use Rattle.std.specs.Prelude.{ℕ}
-use Rattle.roman_top.specs.declared.status.Status.{Status}
-use Rattle.roman_top.specs.declared.status.Status.TheVariants as status
+use Rattle.roman_opening.specs.declared.status.Status.{Status}
+use Rattle.roman_opening.specs.declared.status.Status.TheVariants as status
 
 -- the number of a status, in the order of the variants
 abbrev pub status_number : Status → ℕ

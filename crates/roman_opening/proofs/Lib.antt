@@ -1,0 +1,4 @@
+pub mod Common
+pub mod EndingLemmas
+pub mod OpeningLemmas
+pub mod CallerLemmas
