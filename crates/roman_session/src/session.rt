@@ -139,7 +139,7 @@ impl Session {
     }
 
     /// Returns the system with the services now present.
-    fn joint(&self) -> &Joint
+    pub fn joint(&self) -> &Joint
         ensures { result.now ≡ self.now.parts }
     {
         &self.relation.joint
@@ -154,7 +154,7 @@ impl Session {
     }
 
     /// Returns the state of the service at place `k`.
-    fn state(&self, k: u8) -> u8
+    pub fn state(&self, k: u8) -> u8
         requires { k < length self.now.parts.seats }
         ensures value { result ≡ slice_index self.now.here.bs k }
         ensures within { (seat : model.Seat) → slice_get (present_system self.now).seats k ≡ Some seat → result < seat.beh.states }
@@ -180,7 +180,7 @@ impl Session {
     }
 
     /// Returns the services that are offered for the requested action `a`.
-    fn offered(&self, a: u8) -> SeatSet
+    pub fn offered(&self, a: u8) -> SeatSet
         requires { self.now.phase ≡ Phase.Offered a }
         ensures { HasBits result (has (offers (present_system self.now) self.now.here a)) }
     {
@@ -203,6 +203,20 @@ impl Session {
     {
         self.known(); // there are at most 32 seats
         self.offered(a).has(k)
+    }
+
+    /// Returns the number of the target's present state.
+    pub fn target_state(&self) -> u8
+        ensures { result ≡ self.now.here.t }
+    {
+        self.target
+    }
+
+    /// Returns the number of the environment's present state.
+    pub fn env_state(&self) -> u8
+        ensures { result ≡ self.now.here.e }
+    {
+        self.env
     }
 
     /// Returns the name of the target's present state.
