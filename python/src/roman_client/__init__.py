@@ -56,6 +56,7 @@ from .errors import (
 from .notices import Asked, Changed, Done, Failure, Notice, Recovery, Restarted
 from .policies import Choice, Chosen, LeastCost, Policy, first_offered
 from .position import Frozen, Position
+from .remedies import Change, Remedy, mend
 from .replies import Answer, Explanation, Lost, Move, Offer, Repair, Report, Service
 from .session import Session
 from .snapshots import Snapshot
@@ -69,6 +70,7 @@ __all__ = [
     "BadLine",
     "Busy",
     "Call",
+    "Change",
     "Changed",
     "Choice",
     "Chosen",
@@ -113,6 +115,7 @@ __all__ = [
     "Recovery",
     "Refusal",
     "Related",
+    "Remedy",
     "Repair",
     "Report",
     "Restarted",
@@ -131,6 +134,7 @@ __all__ = [
     "Verdict",
     "device",
     "first_offered",
+    "mend",
 ]
 
 __version__ = "1.0.0"

@@ -7,6 +7,7 @@
 
 from .devices import Act, Back, Device, Policy, device
 from .dispatcher import Dispatcher
+from .remedies import mend, remedies
 from .session import Session
 
-__all__ = ["Act", "Back", "Device", "Dispatcher", "Policy", "Session", "device"]
+__all__ = ["Act", "Back", "Device", "Dispatcher", "Policy", "Session", "device", "mend", "remedies"]
