@@ -18,7 +18,7 @@ from . import PROGRAM, TOP
 
 Ended = "subprocess.CompletedProcess[str]"
 
-TOOLS = ("roman-lint", "roman-expand", "roman-talk", "roman-draw", "roman-advice")
+TOOLS = ("roman-lint", "roman-expand", "roman-talk", "roman-draw", "roman-advice", "roman-mend")
 NAMES = ("roman", "roman-live", *TOOLS)
 """The commands that are installed."""
 
@@ -314,6 +314,7 @@ class Install(Tree):
         "share/roman/schema/home.schema.json",
         "bin/roman-lint",
         "bin/roman-expand",
+        "bin/roman-mend",
         "bin/roman-talk",
         "bin/roman-draw",
         "bin/roman-advice",

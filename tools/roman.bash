@@ -33,10 +33,12 @@ _roman_tool() {
         *draw) options="--explanation --why --offers --all --first --text -o --dot --program --help" ;;
         *talk) options="--program --help" ;;
         *advice) options="--from --all --program --help" ;;
+        *mend) options="--two --spare --program --help" ;;
     esac
     case $before:$word in
         -o:* | --map:* | --costs:* | --from:* | --program:* | --explanation:*) _roman_files "" ;;
         *:-*) COMPREPLY=($(compgen -W "$options" -- "$word")) ;;
+        *.json:*) _roman_files .session .txt ;;
         *) _roman_files .json ;;
     esac
 }
@@ -56,4 +58,4 @@ _roman_live() {
 
 complete -F _roman roman ./roman
 complete -F _roman_live roman-live
-complete -F _roman_tool roman-lint roman-expand roman-draw roman-talk roman-advice
+complete -F _roman_tool roman-lint roman-expand roman-draw roman-talk roman-advice roman-mend

@@ -23,10 +23,10 @@ complete -c roman -k -n '__roman_file 3 run' -a '(__fish_complete_suffix .sessio
 complete -c roman -k -n '__roman_file 3 check' -a '(__fish_complete_suffix .cert)'
 complete -c roman -k -n '__roman_file 3 advise' -a '(__fish_complete_suffix .costs)'
 
-for tool in roman-lint roman-expand roman-draw roman-talk roman-advice
+for tool in roman-lint roman-expand roman-draw roman-talk roman-advice roman-mend
     complete -c $tool -k -a '(__fish_complete_suffix .json)'
 end
-for tool in roman-lint roman-draw roman-talk roman-advice
+for tool in roman-lint roman-draw roman-talk roman-advice roman-mend
     complete -c $tool -l program -r -d 'the program that answers'
 end
 for tool in roman-expand roman-draw
@@ -36,6 +36,8 @@ complete -c roman-lint -l json -d 'write a JSON value, for editors'
 complete -c roman-lint -l all -d 'show what follows from a finding, too'
 complete -c roman-lint -l strict -d 'end with status 1 where there are warnings'
 complete -c roman-lint -l no-program -d 'do not ask the program'
+complete -c roman-mend -l two -d 'try pairs of changes if no single one helps'
+complete -c roman-mend -l spare -d 'write which further service makes up for any failure'
 complete -c roman-expand -l map -r -d 'write where each name and step comes from'
 complete -c roman-expand -l costs -r -d 'write the plain form of these costs'
 complete -c roman-draw -l explanation -r -d 'draw the last explanation in a file'

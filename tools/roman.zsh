@@ -1,4 +1,4 @@
-#compdef roman roman-advice roman-draw roman-lint roman-expand roman-live roman-talk
+#compdef roman roman-advice roman-draw roman-lint roman-expand roman-live roman-mend roman-talk
 # Completion of roman's commands, of its tools and of file names for zsh. It needs no other file.
 
 _roman_tool() {
@@ -23,6 +23,11 @@ _roman_tool() {
             ;;
         *talk) options=($program) ;;
         *advice) options=('--from[take what advise wrote from a file]:file:_files' '--all[show all rows]' $program) ;;
+        *mend)
+            options=('--two[try pairs of changes if no single one helps]'
+                '--spare[write which further service makes up for any failure]' $program
+                '2:session:_files -g "*.session"')
+            ;;
     esac
     _arguments $options ':system:_files -g "*.json"' ':costs:_files -g "*.costs"'
 }

@@ -157,9 +157,7 @@ def singles(document: Document, report: Report) -> list[Remedy]:
     return [Remedy((change,)) for change in changes(document, report)]
 
 
-def mend(
-    document: Document, report: Report, *, program: Program = "roman", two: bool = False
-) -> tuple[Remedy, ...]:
+def mend(document: Document, report: Report, *, program: Program = "roman", two: bool = False) -> tuple[Remedy, ...]:
     """The changes after which there is a composition, the cheapest first. With `two` also pairs of changes, if no
     single one helps. `report` belongs to a session that began with `document`; that session isn't touched."""
     if report.composition:

@@ -31,7 +31,9 @@ from roman_client import (
     Report,
     RomanError,
     Session,
+    mend,
 )
+from roman_client.remedies import first_of_each
 
 from . import explanations, finished, program
 from .checks import Checker
@@ -58,6 +60,9 @@ EVENTS: Dict[str, Tuple[str, str]] = {
     "quit": ("", "end the session"),
 }
 """What a line may be: its names, and what it does."""
+
+REMEDIES = 5
+"""How many remedies `help` names at most."""
 
 WIDTH = 30
 """How wide the column of the lines is, beside their replies."""
@@ -282,6 +287,7 @@ class Talk:
                 else "and the target allows no request"
             )
             lines.append(f"  now: there is no composition (explain says why), {then}")
+            lines += self.remedies() if self.offer is None else []
         elif self.is_stuck:
             lines.append(f"  now: {STUCK}")
         return "\n".join(lines)
@@ -289,6 +295,12 @@ class Talk:
     @property
     def is_stuck(self) -> bool:
         return not self.report.final and not self.allowed()
+
+    def remedies(self) -> List[str]:
+        """What would help where there is no composition."""
+        found = mend(self.document, self.report, program=self.session.core.words)
+        shown = [f"  now: {remedy.lines[0]} would help ({remedy})" for remedy in first_of_each(found, REMEDIES)]
+        return shown or ["  now: no single change would help; roman-mend --two tries pairs"]
 
     # What is said.
 

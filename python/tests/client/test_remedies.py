@@ -10,6 +10,7 @@ from pathlib import Path
 from typing import Any
 
 import pytest
+
 import roman_client as roman
 from roman_client import Document, Remedy, Report, Session, aio, protocol
 from roman_client.remedies import changes, first_of_each, free_name
@@ -110,7 +111,10 @@ def test_pairs_only_if_no_single_change_helps(tmp_path: Path) -> None:
             tried += 1
             helps = composes(tmp_path, edited(edited(value, first.words), second.words))
             assert ((first, second) in found) == helps, (first, second)
-    assert tried > 100 and lines_of(roman.mend(*present, program=PROGRAM, two=True))[0] == ("thaw window", "thaw kettle")
+    assert tried > 100 and lines_of(roman.mend(*present, program=PROGRAM, two=True))[0] == (
+        "thaw window",
+        "thaw kettle",
+    )
     one = after("home.json", "freeze kettle")
     assert roman.mend(*one, program=PROGRAM, two=True) == roman.mend(*one, program=PROGRAM)
 
@@ -148,7 +152,9 @@ def test_a_free_name_has_at_most_32_letters() -> None:
 
 
 def test_first_of_each_shows_each_kind_of_change() -> None:
-    found = roman.mend(*after("home.json", "freeze kettle", "freeze window", "freeze ceiling"), program=PROGRAM, two=True)
+    found = roman.mend(
+        *after("home.json", "freeze kettle", "freeze window", "freeze ceiling"), program=PROGRAM, two=True
+    )
     shown = first_of_each(found, 5)
     assert len(shown) == 5 and shown[:2] == list(found[:2])
     assert not any("blind2 blind ajar" in line for remedy in shown for line in remedy.lines)

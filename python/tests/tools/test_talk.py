@@ -156,7 +156,10 @@ class Terminal(unittest.TestCase):
         self.assertEqual(self.say("do clean"), "no composition")
         self.assertEqual(self.words_of_help(), "freeze thaw die join jump jumpenv report explain help quit")
         now = "now: there is no composition (explain says why), so do clean is refused until something changes"
-        self.assertEqual(self.say("help").splitlines()[-1], f"  {now}")
+        lines = self.say("help").splitlines()
+        place = lines.index(f"  {now}")
+        self.assertEqual(lines[place + 1], "  now: jumpenv full would help (the environment is full)")
+        self.assertIn("  now: jump arm1 fresh would help (arm1 is fresh)", lines[place:])
         self.assertEqual(self.say("do dip"), "no composition")
         for service in ("arm1", "arm2", "arm3"):
             self.say(f"die {service}")

@@ -7,7 +7,7 @@ from typing import Any, Tuple
 
 from . import PROGRAM, TOP
 
-TOOLS = ("roman-lint", "roman-expand", "roman-draw", "roman-talk")
+TOOLS = ("roman-lint", "roman-expand", "roman-draw", "roman-talk", "roman-mend")
 
 
 def tool(name: str, system: str, output: Any) -> Tuple[int, str]:
