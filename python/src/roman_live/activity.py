@@ -7,6 +7,8 @@ from dataclasses import dataclass, field
 from roman_client import Call, Chosen, Failure
 from roman_client.policies import Choice
 
+from .askers import reason
+from .config import PolicyName
 from .errors import Moved
 from .policies import Choose
 
@@ -14,11 +16,13 @@ from .policies import Choose
 @dataclass
 class Activity:
     """The service that was `chosen` for the open request, until its answer comes; the call that is under way, and
-    since when; the failures at that request; and how many changes wait that devices reported."""
+    since when; the failures at that request; the reason of the last choice; and how many changes wait that devices
+    reported."""
 
     chosen: str | None = None
     call: tuple[Call, str] | None = None
     failures: list[Failure] = field(default_factory=list)
+    reason: str = ""
     moving: int = 0
 
     def ended(self) -> None:
@@ -40,6 +44,7 @@ class Chooser:
         service = await self.policy(choice)
         self._check()
         self._activity.chosen = service
+        self._activity.reason = reason(choice, PolicyName(self._name))
         return Chosen(service, f"{self._name}, of {', '.join(choice.offered)}")
 
     def _check(self) -> None:

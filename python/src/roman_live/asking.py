@@ -19,7 +19,7 @@ async def ask(file: HomeFile, action: str, key: Optional[str]) -> int:
     host = {"0.0.0.0": "127.0.0.1", "::": "::1"}.get(page.host, page.host)
     url = f"http://[{host}]:{page.port}" if ":" in host else f"http://{host}:{page.port}"
     headers = {} if page.token is None else {"Authorization": f"Bearer {page.token}"}
-    body = {"action": action, "wait": True, "key": key}
+    body = {"action": action, "wait": True, "key": key, "by": "roman-live ask"}
     timeout = aiohttp.ClientTimeout(total=None)
     try:
         async with aiohttp.ClientSession(headers=headers, timeout=timeout) as client:

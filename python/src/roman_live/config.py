@@ -2,7 +2,6 @@
 
 from __future__ import annotations
 
-import difflib
 import ipaddress
 import os
 import ssl
@@ -10,29 +9,21 @@ from dataclasses import dataclass, field
 from enum import Enum
 from functools import partial
 from pathlib import Path
-from typing import Any, Callable, Dict, Iterable, List, Mapping, Optional, Sequence, Tuple, TypeVar, Union
-from urllib.parse import urlsplit
+from typing import Any, Callable, Dict, Mapping, Optional, Tuple, Union
 
 import tomllib
 
+from .devices.maps import HttpMap, Map, ModbusMap, MqttMap, is_map, read_http, read_modbus, read_mqtt
+from .tables import HomeFileError as HomeFileError
+from .tables import Table, Unusable, flag, function, one_of, origins, seconds, secret, text, topic, url, whole, words
 from .toml_lines import located
-
-Value = TypeVar("Value")
 
 LONGEST_HORIZON = 64
 """The most requests that `advise` looks ahead."""
 
 
-class HomeFileError(Exception):
-    """A home file can't be read, or isn't valid. The text names the file, the line, and the table with the key."""
-
-
 LATE = ("failure", "doubt")
 """What a device that is late has done: nothing that counts, or perhaps its call."""
-
-
-class Unusable(HomeFileError):
-    """A value that is needed is wrong, which is collected already."""
 
 
 class PolicyName(Enum):
@@ -60,6 +51,7 @@ class Page:
     host: str = "127.0.0.1"
     port: int = 8080
     token: Optional[str] = None
+    frame_ancestors: Tuple[str, ...] = ()
 
 
 @dataclass(frozen=True)
@@ -89,6 +81,7 @@ class Broker:
     password: Optional[str] = None
     prefix: str = "roman"
     tls: Optional[Tls] = None
+    discovery: Optional[str] = None
 
 
 @dataclass(frozen=True)
@@ -97,6 +90,10 @@ class MqttReach:
 
     ask: str
     answer: str
+
+    def topics(self) -> Mapping[str, str]:
+        """Its topics, by their keys in the home file."""
+        return {"ask": self.ask, "answer": self.answer}
 
 
 @dataclass(frozen=True)
@@ -126,13 +123,16 @@ class PythonReach:
     folder: Path
 
 
-Reach = Union[MqttReach, HttpReach, CommandReach, PythonReach]
+Reach = Union[MqttReach, HttpReach, CommandReach, PythonReach, Map]
 
 REACHED: Mapping[type, str] = {
     MqttReach: "mqtt",
     HttpReach: "http",
     CommandReach: "command",
     PythonReach: "python",
+    MqttMap: "mqtt",
+    HttpMap: "http",
+    ModbusMap: "modbus",
 }
 
 
@@ -147,11 +147,30 @@ class DeviceEntry:
     repeat: bool = False
     late_is_doubt: bool = False
     poll: Optional[float] = None
+    title: Optional[str] = None
+    room: Optional[str] = None
 
     @property
     def reached(self) -> str:
         """The word for how it is reached."""
         return REACHED[type(self.reach)]
+
+
+@dataclass(frozen=True)
+class Words:
+    """Words for the people who live there: the title of the home, and words for actions and states."""
+
+    title: Optional[str] = None
+    actions: Mapping[str, str] = field(default_factory=dict)
+    states: Mapping[str, str] = field(default_factory=dict)
+
+
+@dataclass(frozen=True)
+class Sensor:
+    """What says the state of the environment: a map without actions, and how many seconds it may take."""
+
+    map: Map
+    seconds: float
 
 
 @dataclass(frozen=True)
@@ -167,6 +186,8 @@ class HomeFile:
     mqtt: Optional[Broker] = None
     devices: Mapping[str, DeviceEntry] = field(default_factory=dict)
     program_seconds: float = 120.0
+    environment: Optional[Sensor] = None
+    words: Words = field(default_factory=Words)
 
     @classmethod
     def read(cls, path: Union[str, "os.PathLike[str]"]) -> HomeFile:
@@ -184,161 +205,6 @@ class HomeFile:
         if home is None or table.errors:
             raise HomeFileError("\n".join(f"{path}: {located(content, each)}" for each in table.errors))
         return home
-
-
-class Table:
-    """A table of the file. What is read of it is taken out, so that what is left is unknown. Wrong values are
-    collected in `errors`, which all tables of a file share."""
-
-    def __init__(self, name: str, value: Any, errors: List[str]) -> None:
-        if not isinstance(value, dict):
-            raise HomeFileError(f"{name} isn't a table")
-        self.name = name
-        self.errors = errors
-        self.is_wrong = False
-        """Whether one of its values is wrong."""
-        self._rest: Dict[str, Any] = dict(value)
-        self._known: Dict[str, None] = {}
-
-    def key(self, key: str) -> str:
-        """The whole name of a key."""
-        return f"{self.name}.{key}" if self.name else key
-
-    def wrong(self, key: str, what: str) -> HomeFileError:
-        """The error that says what is wrong with a key."""
-        return HomeFileError(f"{self.key(key)} {what}")
-
-    def attempt(self, read: Callable[[], Value], otherwise: Value) -> Value:
-        """What a function reads. If it raises HomeFileError, that is collected, and another value is taken."""
-        try:
-            return read()
-        except Unusable:
-            return otherwise
-        except HomeFileError as error:
-            self.errors.append(str(error))
-            return otherwise
-
-    def take(self, key: str, read: Callable[[Any], Value], otherwise: Value) -> Value:
-        """The value of a key, or another one where it isn't there, or is wrong. `read` raises ValueError with what
-        is allowed."""
-        self._known[key] = None
-        if key not in self._rest:
-            return otherwise
-        value = self._rest.pop(key)
-        try:
-            return read(value)
-        except ValueError as error:
-            self.is_wrong = True
-            self.errors.append(str(self.wrong(key, f"is {value!r}, and not {error}")))
-            return otherwise
-
-    def need(self, key: str, read: Callable[[Any], Value], example: str) -> Value:
-        """The value of a key that has to be there."""
-        is_there = key in self._rest
-        value = self.take(key, read, None)
-        if value is None and is_there:
-            raise Unusable()
-        if value is None:
-            near = difflib.get_close_matches(key, self._rest, 1)
-            meant = f"; is {self.key(near[0])} meant for it?" if near else ""
-            raise self.wrong(key, f"is missing, as in {example}{meant}")
-        return value
-
-    def table(self, key: str) -> Optional[Table]:
-        """The table below a key, where there is one."""
-        self._known[key] = None
-        if key not in self._rest:
-            return None
-        return Table(self.key(key), self._rest.pop(key), self.errors)
-
-    def items(self) -> Iterable[Tuple[str, Any]]:
-        """All that is left."""
-        rest, self._rest = self._rest, {}
-        return rest.items()
-
-    def end(self) -> None:
-        """Collects an error for each key that is left, with the key that is probably meant."""
-        for key in self._rest:
-            near = difflib.get_close_matches(key, self._known, 1)
-            meant = f"; did you mean {near[0]}?" if near else ""
-            self.errors.append(str(self.wrong(key, f"isn't known{meant}; known are {', '.join(self._known)}")))
-
-
-def text(value: Any) -> str:
-    """A text that isn't empty."""
-    if not isinstance(value, str) or not value:
-        raise ValueError("a text")
-    return value
-
-
-def flag(value: Any) -> bool:
-    """True or false."""
-    if not isinstance(value, bool):
-        raise ValueError("true or false")
-    return value
-
-
-def whole(least: int, most: int) -> Callable[[Any], int]:
-    """A whole number in these bounds."""
-
-    def read(value: Any) -> int:
-        if type(value) is not int or not least <= value <= most:
-            raise ValueError(f"a whole number from {least} to {most}")
-        return value
-
-    return read
-
-
-def seconds(value: Any) -> float:
-    """A time that is more than none."""
-    if isinstance(value, bool) or not isinstance(value, (int, float)) or not 0 < value <= 86400:
-        raise ValueError("a number of seconds, more than 0 and at most 86400")
-    return float(value)
-
-
-def one_of(words: Sequence[str]) -> Callable[[Any], str]:
-    """One of these words."""
-
-    def read(value: Any) -> str:
-        if value not in words:
-            raise ValueError(f"one of {', '.join(map(repr, words))}")
-        return str(value)
-
-    return read
-
-
-def words(value: Any) -> Tuple[str, ...]:
-    """A list of texts, one at least."""
-    if not isinstance(value, list) or not value or not all(isinstance(each, str) for each in value):
-        raise ValueError('a list of texts, as ["./lamp", "--quiet"]')
-    return tuple(value)
-
-
-def url(value: Any) -> str:
-    """A URL of http or https."""
-    try:
-        place = urlsplit(value if isinstance(value, str) else "")
-        known = place.scheme in ("http", "https") and bool(place.hostname) and place.port != 0
-    except ValueError:  # Its port is no number of a port, or a bracket is missing.
-        known = False
-    if not known:
-        raise ValueError('a URL, as "http://192.168.1.20/blind"')
-    return str(value)
-
-
-def topic(value: Any) -> str:
-    """A topic without wildcards."""
-    if not isinstance(value, str) or not value or any(letter in value for letter in "+#\0"):
-        raise ValueError("a topic without + and #")
-    return value
-
-
-def function(value: Any) -> Tuple[str, str]:
-    """A module and a name in it."""
-    module, colon, name = value.partition(":") if isinstance(value, str) else ("", "", "")
-    if not colon or not name.isidentifier() or not all(part.isidentifier() for part in module.split(".")):
-        raise ValueError('a module and a name in it, as "lamps:ceiling"')
-    return module, name
 
 
 def is_loopback(host: str) -> bool:
@@ -365,6 +231,8 @@ def _home_file(path: Path, table: Table) -> HomeFile:
         table.attempt(lambda: _broker(table.table("mqtt"), folder), usual),
         table.attempt(lambda: _devices(table.table("devices"), folder), {}),
         table.take("program_seconds", seconds, 120.0),
+        table.attempt(lambda: _environment(table.table("environment"), folder), None),
+        table.attempt(lambda: _words(table.take("title", text, None), table.table("words")), Words()),
     )
     table.end()
     table.attempt(lambda: _check_topics(home), None)
@@ -376,15 +244,19 @@ def _check_topics(home: HomeFile) -> None:
     be told whose question or answer comes on it."""
     own = ("requests", "answers", "environment", "state")
     taken = {} if home.mqtt is None else {f"{home.mqtt.prefix}/{each}": "one of mqtt.prefix" for each in own}
-    for name, entry in home.devices.items():
-        if not isinstance(entry.reach, MqttReach):
+    reaches: Dict[str, Reach] = {f"devices.{name}": entry.reach for name, entry in home.devices.items()}
+    if home.environment is not None:
+        reaches["environment"] = home.environment.map
+    for where, reach in reaches.items():
+        if not isinstance(reach, (MqttReach, MqttMap)):
             continue
         if home.mqtt is None:
-            raise HomeFileError(f"devices.{name}.reach is 'mqtt', and there is no table [mqtt]")
-        for key, topic in (("ask", entry.reach.ask), ("answer", entry.reach.answer)):
-            if topic in taken:
-                raise HomeFileError(f"devices.{name}.{key} is {topic!r}, and so is {taken[topic]}")
-            taken[topic] = f"devices.{name}.{key}"
+            raise HomeFileError(f"{where}.reach is 'mqtt', and there is no table [mqtt]")
+        for key, place in reach.topics().items():
+            if place in taken:
+                raise HomeFileError(f"{where}.{key} is {place!r}, and so is {taken[place]}")
+            if isinstance(reach, MqttReach):  # Those of maps are the devices' own: one may have many states.
+                taken[place] = f"{where}.{key}"
 
 
 def _policy(table: Optional[Table], folder: Path) -> Policy:
@@ -420,11 +292,12 @@ def _page(table: Optional[Table], folder: Path) -> Page:
         return Page()
     host = table.take("host", text, "127.0.0.1")
     port = table.take("port", whole(0, 65535), 8080)
-    token = _secret(table, "token_file", folder)
+    token = secret(table, "token_file", folder)
+    frames: Tuple[str, ...] = table.take("frame_ancestors", origins, ())
     table.end()
     if token is None and not is_loopback(host):
         raise table.wrong("token_file", f"is missing, which the address {host} needs: a file with a secret word")
-    return Page(host, port, token)
+    return Page(host, port, token, frames)
 
 
 def _broker(table: Optional[Table], folder: Path) -> Optional[Broker]:
@@ -435,9 +308,10 @@ def _broker(table: Optional[Table], folder: Path) -> Optional[Broker]:
         table.take("host", text, "127.0.0.1"),
         table.take("port", whole(1, 65535), 1883 if tls is None else 8883),
         table.take("username", text, None),
-        _secret(table, "password_file", folder),
+        secret(table, "password_file", folder),
         table.take("prefix", topic, "roman"),
         tls,
+        table.take("discovery", topic, None),
     )
     table.end()
     if broker.password is not None and broker.username is None and not table.is_wrong:
@@ -462,20 +336,6 @@ def _tls(table: Optional[Table], folder: Path) -> Optional[Tls]:
     return tls
 
 
-def _secret(table: Table, key: str, folder: Path) -> Optional[str]:
-    """The first line of the file that a key names."""
-    file = table.take(key, text, None)
-    if file is None:
-        return None
-    try:
-        lines = (folder / file).read_text(encoding="utf-8").splitlines()
-    except (OSError, UnicodeDecodeError) as error:
-        raise table.wrong(key, f"is {file!r}, which can't be read: {error}") from None
-    if not lines or not lines[0].strip():
-        raise table.wrong(key, f"is {file!r}, whose first line is empty")
-    return lines[0].strip()
-
-
 def _devices(table: Optional[Table], folder: Path) -> Dict[str, DeviceEntry]:
     if table is None:
         return {}
@@ -489,19 +349,49 @@ def _devices(table: Optional[Table], folder: Path) -> Dict[str, DeviceEntry]:
 
 def _device(devices: Table, name: str, value: Any, folder: Path) -> DeviceEntry:
     table = Table(devices.key(name), value, devices.errors)
-    kinds = ("mqtt", "http", "command", "python")
-    kind = table.need("reach", one_of(kinds), "reach = " + " or ".join(f'"{each}"' for each in kinds))
+    kind = table.need("reach", one_of(KINDS), "reach = " + " or ".join(f'"{each}"' for each in KINDS))
     limit = table.take("seconds", seconds, None)
     repeat = table.take("repeat", flag, False)
     late = table.take("late", one_of(LATE), LATE[0])
-    # What moves by itself is reported over MQTT.
-    poll = None if kind == "mqtt" else table.take("poll", seconds, None)
+    # What moves by itself is reported over MQTT; maps have a pause of their own.
+    poll = None if kind in ("mqtt", "modbus") or is_map(table) else table.take("poll", seconds, None)
+    title, room = table.take("title", text, None), table.take("room", text, None)
     reach = _READERS[kind](table, folder)
     table.end()
-    return DeviceEntry(reach, limit, repeat, late == "doubt", poll)
+    return DeviceEntry(reach, limit, repeat, late == "doubt", poll, title, room)
+
+
+def _words(title: Optional[str], table: Optional[Table]) -> Words:
+    if table is None:
+        return Words(title)
+    given = {}
+    for kind in ("actions", "states"):
+        inner = table.table(kind)
+        given[kind] = {} if inner is None else {name: inner.need(name, text, "") for name in inner.names()}
+    table.end()
+    return Words(title, given["actions"], given["states"])
+
+
+def _environment(table: Optional[Table], folder: Path) -> Optional[Sensor]:
+    if table is None:
+        return None
+    kind = table.need("reach", one_of(tuple(_SENSORS)), "reach = " + " or ".join(f'"{each}"' for each in _SENSORS))
+    limit = table.take("seconds", seconds, 10.0)
+    found = _SENSORS[kind](table, folder, False)
+    table.end()
+    return Sensor(found, limit)
+
+
+_SENSORS: Mapping[str, Callable[[Table, Path, bool], Map]] = {
+    "mqtt": read_mqtt,
+    "http": read_http,
+    "modbus": read_modbus,
+}
 
 
 def _mqtt(table: Table, folder: Path) -> Reach:
+    if is_map(table):
+        return read_mqtt(table, folder)
     return MqttReach(
         table.need("ask", topic, 'ask = "home/window/ask"'),
         table.need("answer", topic, 'answer = "home/window/answer"'),
@@ -509,6 +399,8 @@ def _mqtt(table: Table, folder: Path) -> Reach:
 
 
 def _http(table: Table, folder: Path) -> Reach:
+    if is_map(table):
+        return read_http(table, folder)
     return HttpReach(table.need("url", url, 'url = "http://192.168.1.20/blind"'))
 
 
@@ -530,4 +422,8 @@ _READERS: Mapping[str, Callable[[Table, Path], Reach]] = {
     "http": _http,
     "command": _command,
     "python": _python,
+    "modbus": read_modbus,
 }
+
+KINDS = tuple(_READERS)
+"""The ways in which a device is reached."""

@@ -31,12 +31,15 @@ from .background import Background
 from .config import DeviceEntry, HomeFile, HomeFileError
 from .devices import Answer, Reach, Simulated
 from .devices.factory import make_reach
+from .devices.maps import Map, check_map, check_states, check_words
+from .environment import EnvironmentSensor
 from .errors import TROUBLE, NoDevice, Nowhere
 from .events import EventLog
 from .mqtt_api import Connection
 from .processes import Processes
 from .recovery import Returning
 from .registry import Knowledge
+from .toml_lines import located
 
 LOG = logging.getLogger("roman_live")
 
@@ -94,6 +97,23 @@ class Earlier:
         return None if last is None else self.first + last
 
 
+def check_names(file: HomeFile, document: Document) -> None:
+    """Raises HomeFileError for a map, or a word, that names what the document hasn't."""
+    behaviours = {each.name: each.behaviour for each in document.services}
+    environments = document.environment.states
+    try:
+        for name, entry in file.devices.items():
+            if isinstance(entry.reach, Map):
+                check_map(f"devices.{name}", entry.reach, document, behaviours.get(name))
+        if file.environment is not None:
+            states = file.environment.map.states
+            check_states("environment", states, environments, "no state of the environment", environments)
+        check_words(file.words.actions, file.words.states, document)
+    except HomeFileError as error:
+        text = file.path.read_text(encoding="utf-8")
+        raise HomeFileError(f"{file.path}: {located(text, str(error))}") from None
+
+
 class Fleet:
     """The devices of a home. It is the listener of its devices."""
 
@@ -116,6 +136,9 @@ class Fleet:
         self.document = document
         self.known = known
         self.broker = None if file.mqtt is None or simulate else Connection(file.mqtt, self._broker_changed)
+        self.sensor: EnvironmentSensor | None = None
+        if file.environment is not None and not simulate:
+            self.sensor = EnvironmentSensor(file.environment, self.broker, self._sensed, self._sensor_said)
         self.background = Background()
         self.devices: dict[str, HomeDevice] = {}
         self._file = file
@@ -130,6 +153,8 @@ class Fleet:
         self.returning = Returning(known, self.held, self.told, self.back, changed, by_hand=simulate)
         for name in [each.name for each in document.services] if simulate else file.devices:
             self._add(name)
+        if not simulate:
+            check_names(file, document)
         missing = self._missing()
         if missing:
             raise HomeFileError("\n".join(missing))
@@ -155,7 +180,8 @@ class Fleet:
             if entry is None:
                 raise NoDevice(f"the home file has no table [devices.{service}], so it can't be reached")
             before = self._earlier.number(service)
-            reach = make_reach(service, entry, self, self.broker, self._earlier.processes, before)
+            processes = self._earlier.processes
+            reach = make_reach(service, entry, self, self.broker, processes, before, self.outcomes)
             device = HomeDevice(self, reach, entry)
         self.devices[service] = self._dispatcher.devices[service] = device
         return device
@@ -168,12 +194,16 @@ class Fleet:
             await self.broker.open()
         for device in self.devices.values():
             await device.reach.open()
+        if self.sensor is not None:
+            await self.sensor.reach.open()
 
     async def begin(self) -> None:
         """Asks all devices for their states, waits a little for that, and watches them from then on."""
         self._ready = True
         if not self._simulate:
             comparing = [self.background.run(self.compare(name)) for name in self.known.present()]
+            if self.sensor is not None:
+                comparing.append(self.background.run(self.sensor.ask()))
             if comparing:
                 await asyncio.wait(comparing, timeout=FIRST_WORD)
             for name, device in self.devices.items():
@@ -190,6 +220,8 @@ class Fleet:
         """Closes all devices, and the connection to the broker."""
         for device in self.devices.values():
             await device.reach.close()
+        if self.sensor is not None:
+            await self.sensor.reach.close()
         if self.broker is not None:
             await self.broker.close()
 
@@ -216,11 +248,19 @@ class Fleet:
         if answer.environment is not None:
             return answer.state, answer.environment
         possible = self.document.environment.after(self.known.environment, call.action)
+        if self.sensor is not None and self.sensor.state in possible:
+            return answer.state, self.sensor.state
         if self.known.environment in possible:
             return answer.state, self.known.environment
         if len(possible) != 1:
             raise DeviceFailed(f"didn't say the environment, which may be {' or '.join(possible)}")
         return answer.state, possible[0]
+
+    def outcomes(self, call: Call) -> set[Outcome]:
+        """The outcomes that the document allows for a call."""
+        known = self.known[call.service]
+        environment = self.known.environment
+        return set(self.document.outcomes(known.behaviour, known.state, environment, call.request))
 
     # Changes by hand.
 
@@ -325,6 +365,19 @@ class Fleet:
         if state != self.known.environment or self._activity.moving:
             self._post(protocol.jumpenv(state))
 
+    def look_at_environment(self) -> None:
+        """Corrects the environment if the document moved it, and its sensor sees that it isn't so."""
+        if self.sensor is not None and self.sensor.state is not None:
+            self.environment_moved(self.sensor.state)
+
+    def _sensed(self, state: str) -> None:
+        """The sensor says that the environment is in that state."""
+        if self._ready:
+            self.environment_moved(state)
+
+    def _sensor_said(self, text: str, well: bool) -> None:
+        self._events.add("sensor", text, level=logging.INFO if well else logging.WARNING)
+
     def _place(self, service: str, answer: Answer) -> None:
         """A service is there now by itself."""
         if answer.environment is not None:
@@ -351,6 +404,8 @@ class Fleet:
         if not connected or not self._ready:
             return
         self.returning.poke_all()
+        if self.sensor is not None and self.sensor.reach.by_broker:
+            self.background.run(self.sensor.ask())
         for name in self.known.present():
             if self.devices[name].reach.by_broker:
                 self.background.run(self.compare(name, COMPARED))

@@ -32,6 +32,7 @@ from roman_client import (
 from roman_client.store import Store
 
 from .activity import Activity, Chooser
+from .askers import ASKER
 from .config import HomeFile, HomeFileError, Policy
 from .errors import NoProgram
 from .events import EventLog, now
@@ -302,12 +303,15 @@ class Home:
         self.activity.call = (call, now())
         self.known[call.service].calls += 1
         self.metrics.asked.labels(call.service).inc()
+        asker, why = ASKER.get(), self.activity.reason
         self.events.add(
             "asked",
-            f"{call.service} is asked to {call.action}",
+            f"{call.service} is asked to {call.action}{f' for {asker}' if asker else ''}{f' ({why})' if why else ''}",
             service=call.service,
             action=call.request,
             request=self.fleet.number(call),
+            asker=asker,
+            reason=why,
         )
 
     def _served(self, done: Done) -> None:
@@ -315,6 +319,7 @@ class Home:
         self.activity.failures.clear()
         self.requests.done(done, self.fleet.newest)
         self.known.served(done)
+        self.fleet.look_at_environment()
         self.events.add(
             "served",
             f"{done.service} served {done.action}, and is {done.state}",

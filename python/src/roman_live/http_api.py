@@ -17,6 +17,7 @@ from aiohttp import web
 
 from roman_client import InDoubt, KeyTaken, NoComposition, NotAllowed, Refusal, StoreFailed
 
+from .askers import ASKER, name_of
 from .config import Page, is_loopback
 from .errors import TROUBLE, Busy, Cancelled, Expired, NoDevice, NoPage, Nowhere, UnknownAction, in_words
 from .events import Message
@@ -61,6 +62,7 @@ class Server:
                 web.get("/", self._get_page),
                 web.get("/picture.svg", self._get_picture),
                 web.get("/state", self._get_state),
+                web.get("/remedies", self._get_remedies),
                 web.get("/events", self._get_events),
                 web.get("/metrics", self._get_metrics),
                 web.post("/requests", self._post_request),
@@ -137,7 +139,8 @@ class Server:
         if _same(request.cookies.get(COOKIE, ""), token):
             return None
         if request.method == "GET" and _same(request.query.get("token", ""), token):
-            if request.path != "/":
+            # A page in a frame of another one isn't sent the cookie: it shows the token with each request.
+            if request.path != "/" or self.page.frame_ancestors:
                 return None
             response = web.Response(status=HTTPStatus.SEE_OTHER, headers={"Location": "/"})
             response.set_cookie(COOKIE, token, httponly=True, samesite="Strict", path="/")
@@ -157,7 +160,7 @@ class Server:
 
     async def _get_page(self, request: web.Request) -> web.Response:
         text = PAGE.read_text(encoding="utf-8")
-        headers = {"Content-Security-Policy": _policy_of(text)}
+        headers = {"Content-Security-Policy": _policy_of(text, self.page.frame_ancestors)}
         return web.Response(text=text, content_type="text/html", headers=headers)
 
     async def _get_picture(self, request: web.Request) -> web.Response:
@@ -169,6 +172,9 @@ class Server:
 
     async def _get_state(self, request: web.Request) -> web.Response:
         return await self._state()
+
+    async def _get_remedies(self, request: web.Request) -> web.Response:
+        return _json(await self.home.shown.remedies())
 
     async def _get_metrics(self, request: web.Request) -> web.Response:
         text = await self.home.shown.figures()
@@ -208,6 +214,8 @@ class Server:
     async def _post_request(self, request: web.Request) -> web.Response:
         body = await _body(request)
         action, key, wait = _text(body, "action"), _optional_text(body, "key"), _flag(body, "wait", True)
+        channel = "the page" if request.headers.get("Sec-Fetch-Site") == "same-origin" else "a client over HTTP"
+        ASKER.set(name_of(_optional_text(body, "by"), channel))
         expires = expiry(body.get("expires"))
         if expires is None:
             raise web.HTTPBadRequest(text=NO_EXPIRY)
@@ -385,7 +393,7 @@ def _flag(body: Mapping[str, Any], name: str, otherwise: bool) -> bool:
     return value
 
 
-def _policy_of(page: str) -> str:
+def _policy_of(page: str, frames: Tuple[str, ...]) -> str:
     """The policy for a page that has nothing but what stands in it."""
 
     def hashes(element: str) -> str:
@@ -393,6 +401,7 @@ def _policy_of(page: str) -> str:
         digests = (hashlib.sha256(each.encode()).digest() for each in found)
         return " ".join(f"'sha256-{base64.b64encode(each).decode()}'" for each in digests) or "'none'"
 
+    none = "'none'"
     return "; ".join(
         [
             "default-src 'none'",
@@ -402,6 +411,6 @@ def _policy_of(page: str) -> str:
             "img-src 'self' data:",
             "base-uri 'none'",
             "form-action 'none'",
-            "frame-ancestors 'none'",
+            f"frame-ancestors {' '.join(frames) or none}",
         ]
     )

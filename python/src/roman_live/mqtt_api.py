@@ -54,6 +54,7 @@ class Connection:
         """`changed` receives whether the connection is in order, and a text that says what happened to it."""
         self.broker = broker
         self.connected = False
+        self.connections = 0
         self.state_topic = self.topic("state")
         self._changed = changed
         self._why: str | None = None
@@ -117,9 +118,13 @@ class Connection:
     def publish_now(self, topic: str, value: Any, retain: bool = False) -> bool:
         """Publishes JSON at once, or not at all: then, without a connection, it returns False. The message isn't
         sent again after the connection was lost, and the broker doesn't keep it for a listener that is away."""
+        return self.send_now(topic, json.dumps(value), retain)
+
+    def send_now(self, topic: str, text: str, retain: bool = False) -> bool:
+        """Publishes a text, as `publish_now` does."""
         if not self.connected:
             return False
-        sent = self._client.publish(topic, json.dumps(value), qos=0, retain=retain)
+        sent = self._client.publish(topic, text, qos=0, retain=retain)
         return bool(sent.rc == mqtt.MQTT_ERR_SUCCESS)
 
     async def open(self) -> None:
@@ -223,6 +228,7 @@ class Connection:
             self._miss(f"the broker refuses: {mqtt.connack_string(code)}")
             return
         self.connected = True
+        self.connections += 1
         self._pause = SHORTEST_PAUSE
         self._why = None
         for topic in self._listeners:

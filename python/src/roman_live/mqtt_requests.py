@@ -6,16 +6,17 @@ import asyncio
 import json
 from typing import Any, Dict, Optional, Set
 
+from .askers import ASKER, name_of
 from .home import Home
 from .http_api import expiry, result
 from .mqtt_api import Connection
 
 
 class MqttRequests:
-    """Serves the requests on the topic PREFIX/requests, `{"id": X, "action": A, "key": K, "expires": S}`; all but the
-    action may be missing. The result of each is on PREFIX/answers, with its id and the status that the HTTP API has.
-    `{"cancel": K}` cancels the requests with that key that still wait. On PREFIX/environment `{"state": E}` says that
-    the environment is in that state by itself.
+    """Serves the requests on the topic PREFIX/requests, `{"id": X, "action": A, "key": K, "expires": S, "by": N}`; all
+    but the action may be missing. The result of each is on PREFIX/answers, with its id and the status that the HTTP API
+    has. `{"cancel": K}` cancels the requests with that key that still wait. On PREFIX/environment `{"state": E}` says
+    that the environment is in that state by itself.
 
     MQTT may bring a request twice, and no mark of the second one comes through the broker: the key alone
     keeps it from being served twice."""
@@ -50,6 +51,7 @@ class MqttRequests:
         if not isinstance(action, str) or not isinstance(key, (str, type(None))) or expires is None:
             self._publish(value.get("id"), 400, {"error": "no request"})
             return
+        ASKER.set(name_of(value.get("by"), "a client over MQTT"))
         status, answer = await result(self._home, action, key, True, expires=expires, source="mqtt")
         self._publish(value.get("id"), status, answer)
 

@@ -4,7 +4,7 @@ from __future__ import annotations
 
 from typing import Any, Dict, List, Optional, Sequence
 
-from roman_client import Document, Done, Explanation, Failure, Report
+from roman_client import Document, Done, Explanation, Failure, Report, Service
 
 STUCK = "the target can go no further here, and isn't final"
 
@@ -32,15 +32,28 @@ def actions_to_json(document: Document, report: Report) -> List[Dict[str, Any]]:
     for action in document.actions:
         why = "not allowed" if action not in allowed else "no composition"
         offered = list(report.offers.get(action, ()))
+        after = document.target_after(report.target, report.environment, action) if offered else None
         actions.append(
             {
                 "action": action,
                 "allowed": action in allowed,
                 "offered": offered,
                 "why": None if offered else why,
+                "target": None if after is None else list(document.target_states(after)),
+                "outcomes": {
+                    each.name: states_after(document, report, each, action)
+                    for each in report.services
+                    if each.name in offered
+                },
             }
         )
     return actions
+
+
+def states_after(document: Document, report: Report, service: Service, action: str) -> List[str]:
+    """The states in which a service may be after an action."""
+    outcomes = document.outcomes(service.behaviour, service.state, report.environment, action)
+    return list(dict.fromkeys(state for state, _ in outcomes))
 
 
 def explanation_to_json(explanation: Explanation) -> Dict[str, Any]:

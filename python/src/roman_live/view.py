@@ -10,10 +10,12 @@ from typing import TYPE_CHECKING, Any, Callable, Dict, List, Optional, Tuple
 
 from roman_client import Explanation, Report, RomanError, SessionOver
 
+from .discovery import Discovery
 from .errors import TROUBLE
 from .events import Message, now
 from .mqtt_api import GONE
 from .opening import without_composition
+from .remedies import Remedies
 from .states import STUCK, actions_to_json, explanation_to_json, is_stuck, target_to_json
 
 if TYPE_CHECKING:
@@ -35,6 +37,17 @@ class Shown:
         self._report = home.session.opening
         self._explained: Optional[Tuple[Report, Optional[Explanation]]] = None
         self._stuck = False
+        self._remedies = Remedies(home.document, home.session.core.words)
+        self._discovery = self._make_discovery()
+
+    def _make_discovery(self) -> Optional[Discovery]:
+        """The messages for Home Assistant, if the home file asks for them."""
+        broker = self._home.fleet.broker
+        if broker is None or broker.broker.discovery is None:
+            return None
+        prefix = broker.broker.discovery
+        broker.subscribe(f"{prefix}/status", self._hear_status)
+        return Discovery(self._home.file, self._home.document, broker, prefix)
 
     async def state(self) -> Dict[str, Any]:
         """The present state as JSON."""
@@ -43,6 +56,8 @@ class Shown:
         services = [self._service_to_json(name) for name in self._home.known]
         return {
             "document": self._home.file.document.name,
+            "title": self._home.file.words.title,
+            "words": {"actions": self._home.file.words.actions, "states": self._home.file.words.states},
             "time": now(),
             "simulated": self._home.simulate,
             "target": target_to_json(self._home.document, report),
@@ -69,6 +84,10 @@ class Shown:
         services = [(name, self._status(name)) for name in self._home.known]
         self._home.metrics.show(self._home.dispatcher.served, report.composition, services)
         return self._home.metrics.text()
+
+    async def remedies(self) -> Dict[str, Any]:
+        """What would help where there is no composition."""
+        return await self._remedies.of(await self._present_report())
 
     async def allowed(self) -> List[str]:
         """The actions that are offered now."""
@@ -111,8 +130,11 @@ class Shown:
     def _service_to_json(self, name: str) -> Dict[str, Any]:
         known = self._home.known[name]
         device = self._home.fleet.devices.get(name)
+        entry = self._home.file.devices.get(name)
         return {
             "name": name,
+            "title": None if entry is None else entry.title,
+            "room": None if entry is None else entry.room,
             "behaviour": known.behaviour,
             "state": known.state,
             "states": list(self._home.document.behaviours[known.behaviour].states),
@@ -164,6 +186,8 @@ class Shown:
                     self._home.fleet.broker.publish_now(
                         self._home.fleet.broker.state_topic, await self._summary(), retain=True
                     )
+                    if self._discovery is not None:
+                        self._discovery.publish(self._home.known)
                 if self.listener is not None:
                     self.listener(self._line(await self._present_report()))
             except TROUBLE as error:
@@ -189,6 +213,12 @@ class Shown:
             if json.loads(payload) == GONE:
                 self._home.dirty.set()
 
+    def _hear_status(self, payload: bytes, retained: bool) -> None:
+        """Home Assistant says whether it is there."""
+        if self._discovery is not None:
+            self._discovery.hear_status(payload, retained)
+            self._home.dirty.set()
+
     async def _summary(self) -> Dict[str, Any]:
         """The state in short, for others on the broker."""
         report = await self._present_report()
@@ -198,6 +228,11 @@ class Shown:
             "composes": report.composition,
             "offers": {action: list(services) for action, services in report.offers.items()},
             "services": {
-                name: {"state": known.state, "status": self._status(name)} for name, known in self._home.known.items()
+                name: {"state": known.state, "status": self._status(name), "error": known.last_error}
+                for name, known in self._home.known.items()
+            },
+            "counts": {
+                "served": self._home.dispatcher.served,
+                "frozen": sum(each.frozen for each in report.services),
             },
         }

@@ -49,10 +49,10 @@ def until(holds: Callable[[], Any], what: str, passing: Tuple[Type[Exception], .
 
 
 class Mosquitto:
-    """A broker of its own, on a free port. `more` is what else its file says."""
+    """A broker of its own, on that port or a free one. `more` is what else its file says."""
 
-    def __init__(self, folder: Path, more: str = "") -> None:
-        self.port = free_port()
+    def __init__(self, folder: Path, more: str = "", port: Optional[int] = None) -> None:
+        self.port = port or free_port()
         self._file = folder / "mosquitto.conf"
         self._file.write_text(
             f"listener {self.port} 127.0.0.1\nallow_anonymous true\npersistence false\n{more}",

@@ -14,6 +14,7 @@ from selenium.webdriver.common.keys import Keys
 from selenium.webdriver.support.select import Select
 
 from .browser import Demonstrated, Played, Running, browser, wait_until
+from .machinery import free_port
 
 CONTRAST = """
 const light = color => {
@@ -37,6 +38,10 @@ return [...document.querySelectorAll("header *, main *")]
   .filter(each => each[0] < 4.5);
 """
 """The texts that are hard to read: their contrast is below 4.5."""
+
+
+STATUSES = {"ready": "ready", "frozen": "out of order", "under way": "at work", "dead": "gone"}
+"""The page's words for the statuses of services that weren't frozen by hand."""
 
 
 class Browsing(unittest.TestCase):
@@ -135,7 +140,7 @@ class ThePage(Browsing):
         self.find("#actions li[data-key='boil'] button").click()
         self.assertEqual(self.text("result"), "")
         self.press("actions", "brighten")
-        self.wait_for_service("window", "▶ under way")
+        self.wait_for_service("window", "▶ at work")
         buttons = self.driver.find_elements("css selector", "#actions button")
         self.assertEqual({each.get_attribute("aria-disabled") for each in buttons}, {"true"})
         self.wait_for_text("asked", "window is asked for brighten")
@@ -159,7 +164,7 @@ class ThePage(Browsing):
             if "brighten" in self.driver.execute_script(words):
                 break
         self.driver.switch_to.active_element.send_keys(Keys.ENTER)
-        self.wait_for_service("window", "▶ under way")
+        self.wait_for_service("window", "▶ at work")
         self.assertIn("brighten", self.driver.execute_script(words))
         self.button("outcomes", "window is open").send_keys(Keys.SPACE)
         self.wait_for_text("target", "It is bright.")
@@ -173,35 +178,40 @@ class ThePage(Browsing):
     def test_no_composition_is_explained(self) -> None:
         self.press("actions", "brighten")
         for name in ("window", "ceiling", "desk"):
-            self.wait_for_service(name, "▶ under way")
+            self.wait_for_service(name, "▶ at work")
             self.press("outcomes", "It fails")
-            self.wait_for_service(name, "❄ frozen")
+            self.wait_for_service(name, "❄ out of order")
         self.wait_for_text("result", "brighten: no composition")
         self.assertIn("desk failed: it was told to fail", self.text("result"))
         wait_until(lambda: self.find("#lost").is_displayed(), "why there is no composition")
         self.wait_for_text("lost-now", "nobody can be given brighten")
+        self.assertEqual(
+            self.text("lost-frozen").splitlines(),
+            [f"❄ {name} is out of order: it was told to fail" for name in ("window", "ceiling", "desk")],
+        )
+        self.wait_for_text("remedies", "window is back · ceiling is back · desk is back · another blind joins, shut")
         self.wait_for_text("lost-answers", "kettle can't do it now")
         self.assertIn("no composition", self.find("#actions li[data-key='brighten']").text)
-        self.change("desk", "Thaw it")
+        self.change("desk", "It is in order again (thaw)")
         self.confirm()
         self.wait_for_service("desk", "● ready")
         wait_until(lambda: not self.find("#lost").is_displayed(), "the composition")
         self.button("actions", "desk may serve it")
 
     def test_changes_ask_back(self) -> None:
-        self.change("window", "Freeze it")
+        self.change("window", "It is being fixed (freeze)")
         self.wait_for_text("meaning", "window is asked no more")
         self.assertEqual(self.status("window"), "ready")
         self.find("#cancel").click()
         self.assertEqual(self.status("window"), "ready")
-        self.change("window", "Freeze it")
+        self.change("window", "It is being fixed (freeze)")
         self.confirm()
-        self.wait_for_service("window", "❄ frozen by hand")
+        self.wait_for_service("window", "❄ being fixed")
         self.assertEqual(self.status("window"), "frozen")
         self.change("ceiling", "It is gone for good")
         self.wait_for_text("meaning", "can't be taken back")
         self.confirm()
-        self.wait_for_service("ceiling", "✕ dead")
+        self.wait_for_service("ceiling", "✕ gone")
         self.change("desk", "Say where it is")
         Select(self.find("#fields label:nth-child(2) select")).select_by_value("on")
         self.confirm()
@@ -282,9 +292,9 @@ class ThePage(Browsing):
         self.addCleanup(self.driver.execute_cdp_cmd, "Emulation.setEmulatedMedia", {"features": []})
         self.change("ceiling", "It is gone for good")
         self.confirm()
-        self.change("desk", "Freeze it")
+        self.change("desk", "It is being fixed (freeze)")
         self.confirm()
-        self.change("kettle", "Freeze it")
+        self.change("kettle", "It is being fixed (freeze)")
         self.confirm()
         wait_until(lambda: self.find("#lost").is_displayed(), "why there is no composition")
         seen = set()
@@ -297,8 +307,21 @@ class ThePage(Browsing):
 
     def test_the_drawing(self) -> None:
         self.find("#drawing summary").click()
-        drawn = "return document.querySelector('#drawn img')?.naturalWidth"
-        wait_until(lambda: self.driver.execute_script(drawn), "the drawing")
+        names = "return [...document.querySelectorAll('#drawn .{}')].map(each => each.{})"
+        title = "querySelector('title').textContent"
+
+        def shown(kind: str, what: str = title) -> List[str]:
+            return sorted(self.driver.execute_script(names.format(kind, what)))
+
+        wait_until(lambda: shown("present"), "the drawing")
+        self.assertEqual(shown("present"), ["b0 shut", "b1 off", "b2 empty", "e day", "t0 quiet"])
+        self.assertEqual(shown("next"), ["b0 shut->b0 open", "b1 off->b1 on", "t0 quiet->t0 bright"])
+        self.assertEqual(shown("here", "textContent"), ["● ceiling ● desk", "● kettle", "● window"])
+        self.press("actions", "brighten")
+        self.press("outcomes", "window is open")
+        wait_until(lambda: "t0 bright" in shown("present"), "the next state")
+        self.assertIn("b0 open", shown("present"))
+        self.assertEqual(self.complaints(), [])
 
     def test_nothing_comes_from_outside(self) -> None:
         with urllib.request.urlopen(f"{self.home.url}/") as response:
@@ -343,7 +366,7 @@ class Markup(Browsing):
         self.assertEqual(self.text("name"), "<b>home.json")
         self.assertEqual(self.driver.title, "<b>home.json")
         self.press("actions", "brighten")
-        self.wait_for_service("window", "▶ under way")
+        self.wait_for_service("window", "▶ at work")
         home.post("outcome", {"service": "window", "state": "<b>open", "environment": "day"})
         error = "answered <b>open day, which can't be"
         self.wait_for_service("window", f"last error: {error}")
@@ -354,6 +377,83 @@ class Markup(Browsing):
         self.find("#fields input[type='text']").send_keys("<b>bedside")
         self.wait_for_text("meaning", "<b>bedside joins as a")
         self.assertEqual(self.driver.find_elements("css selector", "b"), [])
+
+
+WORDS = """
+title = "Our kitchen"
+[words.actions]
+brighten = "Make it bright"
+[words.states]
+open = "wide open"
+[devices.window]
+reach = "command"
+command = ["true"]
+title = "The blind"
+room = "Kitchen"
+"""
+
+
+class InWords(Browsing):
+    def test_titles_and_words_stand_above_the_names(self) -> None:
+        home = Played()
+        self.addCleanup(home.close)
+        file = home.folder / "home.toml"
+        title, rest = WORDS.strip().split("\n", 1)
+        file.write_text(f"{title}\n{file.read_text(encoding='utf-8')}\n{rest}\n", encoding="utf-8")
+        home.begin()
+        self.open(home)
+        self.assertEqual((self.text("name"), self.driver.title), ("Our kitchen", "Our kitchen"))
+        self.assertIn("home.json", self.text("counts"))
+        self.assertIn("brighten: The blind, ceiling or desk may serve it", self.find("#actions li").text)
+        self.press("actions", "Make it bright")
+        self.wait_for_text("asked", "The blind is asked for Make it bright")
+        self.press("outcomes", "window is open")
+        self.wait_for_text("result", "The blind served Make it bright, and is wide open.")
+        self.wait_for_service("window", "The blind")
+        self.assertIn("Kitchen · window: open", self.service("window"))
+        self.wait_for_text("events", "window is asked to brighten for the page (the first of window, ceiling, desk)")
+
+
+FRAME = "<iframe id='frame' src='{}/?token=open+sesame' width='900' height='700'></iframe>"
+
+
+class InAFrame(Browsing):
+    """A card of another page that shows the home in a frame."""
+
+    def framed(self, port: int, allowed: bool) -> None:
+        frames = f'frame_ancestors = ["http://localhost:{port}"]\n' if allowed else ""
+        home = Played(f'token_file = "token"\n{frames}')
+        self.addCleanup(home.close)
+        (home.folder / "token").write_text("open sesame\n", encoding="utf-8")
+        home.begin()
+
+        class Card(BaseHTTPRequestHandler):
+            def do_GET(self) -> None:
+                self.send_response(200)
+                self.end_headers()
+                self.wfile.write(FRAME.format(home.url).encode())
+
+            def log_message(self, *words: Any) -> None:
+                """Says nothing."""
+
+        server = ThreadingHTTPServer(("127.0.0.1", port), Card)
+        self.addCleanup(server.server_close)
+        self.addCleanup(server.shutdown)
+        threading.Thread(target=server.serve_forever, daemon=True).start()
+        self.driver.get(f"http://localhost:{port}/")
+        self.driver.switch_to.frame("frame")
+        self.addCleanup(self.driver.switch_to.default_content)
+
+    def test_the_page_works_in_a_frame_that_is_allowed(self) -> None:
+        self.framed(free_port(), True)
+        self.wait_for_text("link", "✓ connected")
+        self.press("actions", "brighten")
+        self.press("outcomes", "window is open")
+        self.wait_for_text("target", "It is bright.")
+
+    def test_no_other_page_may_show_it(self) -> None:
+        self.framed(free_port(), False)
+        self.assertEqual(self.driver.find_elements("id", "link"), [])
 
 
 class WithAToken(Browsing):
@@ -403,7 +503,10 @@ class Demonstration(Browsing):
         return (
             f"It is {state['target']['state']}." in self.text("target")
             and f"{state['counts']['served']} served" in self.text("counts")
-            and all(f"{each['status']} · {each['state']}" in self.service(each["name"]) for each in state["services"])
+            and all(
+                f"{STATUSES[each['status']]} · {each['state']}" in self.service(each["name"])
+                for each in state["services"]
+            )
         )
 
 

@@ -73,6 +73,26 @@ class Served(unittest.TestCase):
 
 
 class Api(Served):
+    def test_remedies(self) -> None:
+        self.assertEqual(self.live.get("/remedies")[1], {"composes": True, "complete": True, "remedies": []})
+        self.live.post("/services/kettle/freeze", {})
+        status, value = self.live.get("/remedies")
+        self.assertEqual((status, value["composes"], value["complete"]), (200, False, True))
+        self.assertEqual(
+            value["remedies"],
+            [
+                {"text": "kettle is back", "changes": [["thaw", "kettle"]]},
+                {"text": "another kettle joins, empty", "changes": [["join", "kettle2", "kettle", "empty"]]},
+            ],
+        )
+        for each in ("window", "ceiling"):
+            self.live.post(f"/services/{each}/freeze", {})
+        value = self.live.get("/remedies")[1]
+        self.assertEqual(value["remedies"][0]["text"], "window is back and kettle is back")
+        for each in value["remedies"][0]["changes"]:
+            self.live.post(f"/services/{each[1]}/thaw", {})
+        self.assertTrue(self.live.state()["composes"])
+
     def test_requests(self) -> None:
         post = self.live.post
         status, value = post("/requests", {"action": "brighten", "wait": False})

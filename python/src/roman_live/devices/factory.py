@@ -8,6 +8,10 @@ from ..processes import Processes
 from .base import Listener, Reach
 from .command import Command, KeptCommand
 from .http import Http
+from .mapped import MappedReach, Outcomes
+from .mapped_http import MappedHttp
+from .mapped_mqtt import MappedMqtt
+from .maps import HttpMap, Map, ModbusMap, MqttMap
 from .mqtt import Mqtt
 from .python import PythonDevice
 
@@ -19,10 +23,13 @@ def make_reach(
     broker: Connection | None,
     processes: Processes,
     before: int | None,
+    outcomes: Outcomes,
 ) -> Reach:
     """The reach of a service. Commands hold their locks in `processes`; `before` is the number of its last call, whose
-    command an earlier run may have left at work."""
+    command an earlier run may have left at work. `outcomes` says what the document allows for a call."""
     reach = entry.reach
+    if isinstance(reach, Map):
+        return make_mapped(service, reach, listener, broker, outcomes)
     if isinstance(reach, MqttReach):
         assert broker is not None
         return Mqtt(service, listener, reach, broker)
@@ -31,3 +38,18 @@ def make_reach(
     if isinstance(reach, CommandReach):
         return (KeptCommand if reach.lines else Command)(service, listener, reach, processes, before)
     return PythonDevice(service, listener, reach)
+
+
+def make_mapped(
+    service: str, found: Map, listener: Listener, broker: Connection | None, outcomes: Outcomes
+) -> MappedReach:
+    """The reach of a service, or of the environment, by a map."""
+    if isinstance(found, MqttMap):
+        assert broker is not None
+        return MappedMqtt(service, listener, found, outcomes, broker)
+    if isinstance(found, HttpMap):
+        return MappedHttp(service, listener, found, outcomes)
+    assert isinstance(found, ModbusMap)
+    from .modbus import Modbus  # Its client is needed only by those who have such machines.
+
+    return Modbus(service, listener, found, outcomes)

@@ -3,10 +3,11 @@
 from __future__ import annotations
 
 import json
-from typing import Any, Optional
+from typing import Mapping, Optional
 from urllib.parse import urlsplit
 
 import aiohttp
+from yarl import URL
 
 from roman_client import Call, DeviceFailed, DeviceLost
 
@@ -15,20 +16,15 @@ from ..errors import unreached
 from .base import LONGEST_ANSWER, Answer, Listener, Reach, answer_of, json_of, short
 
 
-class Http(Reach):
-    """A device that carries out what is posted to its URL, and tells its state to GET. Each call has a
-    connection of its own, so that a late answer can't be taken for another's, and no call is lost on one that
-    the device has left."""
+class Client:
+    """Sends requests to devices. Each has a connection of its own, so that a late answer can't be taken for
+    another's, and no call is lost on one that the device has left."""
 
-    reached = "http"
-
-    def __init__(self, service: str, listener: Listener, entry: HttpReach) -> None:
-        super().__init__(service, listener)
-        self._url = entry.url
-        self._shown = _without_secrets(entry.url)
+    def __init__(self) -> None:
         self._client: Optional[aiohttp.ClientSession] = None
 
     async def open(self) -> None:
+        """Makes it ready to send."""
         # The dispatcher has the deadline; redirects, proxies and cookies aren't for devices.
         self._client = aiohttp.ClientSession(
             connector=aiohttp.TCPConnector(force_close=True),
@@ -37,37 +33,60 @@ class Http(Reach):
         )
 
     async def close(self) -> None:
+        """Lets go of its connections."""
         if self._client is not None:
             await self._client.close()
 
+    async def request(
+        self, method: str, url: str, headers: Mapping[str, str], body: Optional[str], query: Mapping[str, str] = {}
+    ) -> bytes:
+        """Sends a request, and gives the body of the answer. Raises DeviceFailed for any other status than 2xx."""
+        assert self._client is not None
+        shown = _without_secrets(url)
+        # A URL that is whole is sent as it stands.
+        place = URL(url, encoded=True).update_query(query) if query else URL(url, encoded=True)
+        try:
+            async with self._client.request(
+                method, place, data=body, headers=headers, allow_redirects=False
+            ) as response:
+                data = await _read(response)
+                status = response.status
+        except aiohttp.ClientConnectorError as error:
+            raise DeviceFailed(f"{shown}: {unreached(error)}") from None
+        except aiohttp.ClientError as error:
+            raise DeviceLost(f"{shown}: {error or type(error).__name__}") from None
+        if not 200 <= status < 300:
+            raise DeviceFailed(f"{shown}: status {status}: {short(data)}")
+        return data
+
+
+class Http(Reach):
+    """A device that carries out what is posted to its URL, and tells its state to GET."""
+
+    reached = "http"
+
+    def __init__(self, service: str, listener: Listener, entry: HttpReach) -> None:
+        super().__init__(service, listener)
+        self._url = entry.url
+        self._client = Client()
+
+    async def open(self) -> None:
+        await self._client.open()
+
+    async def close(self) -> None:
+        await self._client.close()
+
     async def ask(self, number: int, call: Call) -> Answer:
         body = json.dumps({"id": number, "action": call.action})
-        value = await self._exchange("POST", {}, body)
+        headers = {"Content-Type": "application/json"}
+        value = json_of(await self._client.request("POST", self._url, headers, body))
         if isinstance(value, dict) and value.get("id", number) != number:
             raise DeviceFailed(f"answered to {short(value['id'])}, and was asked {number}")
         return answer_of(value)
 
     async def tell(self, number: Optional[int], call: Optional[Call] = None) -> Optional[Answer]:
         about = {} if number is None else {"id": str(number)}
-        return answer_of(await self._exchange("GET", about, None))
-
-    async def _exchange(self, method: str, query: dict[str, str], body: Optional[str]) -> Any:
-        """Sends a request, and gives the JSON of its answer."""
-        assert self._client is not None
-        headers = {"Content-Type": "application/json"} if body is not None else {}
-        try:
-            async with self._client.request(
-                method, self._url, params=query, data=body, headers=headers, allow_redirects=False
-            ) as response:
-                data = await _read(response)
-                status = response.status
-        except aiohttp.ClientConnectorError as error:
-            raise DeviceFailed(f"{self._shown}: {unreached(error)}") from None
-        except aiohttp.ClientError as error:
-            raise DeviceLost(f"{self._shown}: {error or type(error).__name__}") from None
-        if not 200 <= status < 300:
-            raise DeviceFailed(f"{self._shown}: status {status}: {short(data)}")
-        return json_of(data)
+        return answer_of(json_of(await self._client.request("GET", self._url, {}, None, about)))
 
 
 def _without_secrets(url: str) -> str:

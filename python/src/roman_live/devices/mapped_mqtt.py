@@ -1,0 +1,127 @@
+"""Devices of any make behind a broker, reached by a map."""
+
+from __future__ import annotations
+
+import asyncio
+from typing import Iterable
+
+from roman_client import Call, DeviceFailed
+
+from ..mqtt_api import Connection
+from ..templates import TemplateFailed
+from .base import LONGEST_ANSWER, Answer, Listener
+from .mapped import Expected, MappedReach, Outcomes, answer_in
+from .maps import MqttAction, MqttMap, Reading
+
+
+class MappedMqtt(MappedReach):
+    """A device that says its state on a topic whenever it changes, and is told to act on others."""
+
+    reached = "mqtt"
+    by_broker = True
+
+    def __init__(
+        self, service: str, listener: Listener, found: MqttMap, outcomes: Outcomes, broker: Connection
+    ) -> None:
+        super().__init__(service, listener, found, outcomes)
+        self._topics = found
+        self._broker = broker
+        self._there: bool | None = None
+        self._last: Reading | None = None
+        self._expected: Expected | None = None
+        self._told: set[asyncio.Future[Answer]] = set()
+
+    async def open(self) -> None:
+        if self._topics.state_topic is not None:
+            self._broker.subscribe(self._topics.state_topic, self._hear)
+        if self._topics.availability is not None:
+            self._broker.subscribe(self._topics.availability.topic, self._hear_availability)
+
+    async def ask(self, number: int, call: Call) -> Answer:
+        action = self.action(call)
+        assert isinstance(action, MqttAction)
+        self._check_there()
+        expected = Expected(self._outcomes(call), asyncio.get_running_loop().create_future())
+        self._expected = expected
+        try:
+            try:
+                payload = action.payload.render({"action": call.action, "id": number})
+            except TemplateFailed as error:
+                raise DeviceFailed(f"can't be told to {call.action}: {error}") from None
+            if not self._broker.send_now(action.topic, payload):
+                raise DeviceFailed("the broker can't be reached")
+            if action.state is not None:
+                return Answer(action.state)
+            answer = await expected.answer
+        except BaseException:
+            self._last = None  # It may be moving; only what it says from now on counts.
+            raise
+        finally:
+            self._expected = None
+        return answer
+
+    async def tell(self, number: int | None, call: Call | None = None) -> Answer | None:
+        if self._topics.state_topic is None:
+            return None
+        self._check_there()
+        if self._topics.ask_topic is None and self._last is not None:
+            return answer_in(self._last)
+        told: asyncio.Future[Answer] = asyncio.get_running_loop().create_future()
+        self._told.add(told)
+        try:
+            if self._topics.ask_topic is not None:
+                if not self._broker.send_now(self._topics.ask_topic, self._topics.ask_payload):
+                    raise DeviceFailed("the broker can't be reached")
+            return await told
+        finally:
+            self._told.discard(told)
+
+    def _check_there(self) -> None:
+        if self._there is False:
+            raise DeviceFailed("isn't available")
+
+    def _hear(self, payload: bytes, retained: bool) -> None:
+        """A message on the topic of the state. A retained one is older than a command that waits."""
+        if len(payload) > LONGEST_ANSWER:
+            self.listener.late(self.service, f"says more than {LONGEST_ANSWER} bytes")
+            return
+        reading = self.read(payload.decode(errors="replace"))
+        if reading is None:
+            return
+        self._last = reading
+        try:
+            answer = answer_in(reading)
+        except DeviceFailed as error:
+            _settle(self._told, error)
+            return
+        _settle(self._told, answer)
+        if self._expected is None:
+            self.listener.moved(self.service, answer)
+        elif not retained and self._expected.fits(answer) and not self._expected.answer.done():
+            self._expected.answer.set_result(answer)
+            self._expected = None
+            self.listener.answered(self.service)
+
+    def _hear_availability(self, payload: bytes, retained: bool) -> None:
+        assert self._topics.availability is not None
+        there = self._topics.availability.read(payload[:LONGEST_ANSWER].decode(errors="replace"))
+        if there is None or there == self._there:
+            return
+        before, self._there = self._there, there
+        if not there:
+            open_call = [self._expected.answer] if self._expected is not None else []
+            _settle([*self._told, *open_call], DeviceFailed("isn't available"))
+            self.listener.gone(self.service)
+        elif before is False:
+            self.listener.late(self.service, "is available again")
+
+
+def _settle(waiting: Iterable[asyncio.Future[Answer]], value: Answer | DeviceFailed) -> None:
+    """Gives a value, or an error, to all who wait for it."""
+    for each in waiting:
+        if each.done():
+            continue
+        if isinstance(value, Answer):
+            each.set_result(value)
+        else:
+            each.set_exception(value)

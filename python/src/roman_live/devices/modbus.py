@@ -1,0 +1,91 @@
+"""Machines with coils and registers, reached by Modbus over TCP."""
+
+from __future__ import annotations
+
+import asyncio
+import functools
+import inspect
+import json
+import logging
+from typing import Any, Callable
+
+from pymodbus.client import ModbusTcpClient
+from pymodbus.exceptions import ModbusException
+
+from roman_client import Call, DeviceFailed
+
+from .base import Listener
+from .mapped import Outcomes, PolledReach
+from .maps import ModbusAction, ModbusMap, ModbusPlace
+
+logging.getLogger("pymodbus").setLevel(logging.CRITICAL)  # Its errors are told as those of the device.
+
+SECONDS = 3
+"""How long a machine may take for one reply."""
+
+READS = {
+    "coil": "read_coils",
+    "discrete": "read_discrete_inputs",
+    "register": "read_holding_registers",
+    "input": "read_input_registers",
+}
+"""The methods of the client that read each kind of place."""
+
+UNIT = "device_id" if "device_id" in inspect.signature(ModbusTcpClient.read_coils).parameters else "slave"
+"""The client's word for the number of a machine, which newer versions have changed."""
+
+
+class Modbus(PolledReach):
+    """A machine whose state is read from a place, and which acts when something is written. Each exchange has a
+    connection and a thread of its own: the client waits, and a machine that hangs delays nothing else."""
+
+    reached = "modbus"
+
+    def __init__(self, service: str, listener: Listener, found: ModbusMap, outcomes: Outcomes) -> None:
+        super().__init__(service, listener, found, outcomes, found.poll)
+        self._machine = found
+
+    async def fetch(self) -> str:
+        values = await asyncio.to_thread(self._exchange, lambda client: self._values(client, self._machine.state))
+        return json.dumps(values if self._machine.state.count > 1 else values[0])
+
+    async def send(self, number: int, call: Call) -> str:
+        action = self.action(call)
+        assert isinstance(action, ModbusAction)
+        write = functools.partial(self._write, action)
+        await asyncio.to_thread(self._exchange, write)
+        return ""
+
+    def _exchange(self, talk: Callable[[Any], Any]) -> Any:
+        """Connects, and gives what the talk with the machine gives."""
+        shown = f"{self._machine.host}:{self._machine.port}"
+        client = ModbusTcpClient(self._machine.host, port=self._machine.port, timeout=SECONDS)
+        try:
+            if not client.connect():
+                raise DeviceFailed(f"{shown} can't be reached")
+            return talk(client)
+        except (ModbusException, OSError) as error:
+            raise DeviceFailed(f"{shown}: {error}") from None
+        finally:
+            client.close()
+
+    def _values(self, client: Any, place: ModbusPlace) -> list[int]:
+        """The bits, as 0 and 1, or the numbers at a place."""
+        reply = getattr(client, READS[place.kind])(place.address, count=place.count, **self._unit)
+        _check(reply)
+        values = reply.bits if place.kind in ("coil", "discrete") else reply.registers
+        return [int(each) for each in values[: place.count]]
+
+    def _write(self, action: ModbusAction, client: Any) -> None:
+        write = client.write_coil if action.place.kind == "coil" else client.write_register
+        _check(write(action.place.address, action.value, **self._unit))
+
+    @property
+    def _unit(self) -> dict[str, int]:
+        return {UNIT: self._machine.unit}
+
+
+def _check(reply: Any) -> None:
+    """Raises DeviceFailed for a reply that is an error."""
+    if reply.isError():
+        raise DeviceFailed(f"refuses: {reply}")

@@ -1,0 +1,560 @@
+"""Maps: mistakes in their tables, what messages stand for, and devices that no sample shows."""
+
+from __future__ import annotations
+
+import asyncio
+import json
+from pathlib import Path
+from typing import Any, Callable, Coroutine, TypeVar
+
+import pytest
+from aiohttp import web
+from pymodbus.datastore import ModbusSequentialDataBlock, ModbusServerContext, ModbusSlaveContext
+
+from roman_client import Call, DeviceFailed, Document
+from roman_live.config import HomeFile, HomeFileError
+from roman_live.devices import Answer
+from roman_live.devices.factory import make_mapped
+from roman_live.devices.mapped import MappedReach, Outcomes
+from roman_live.devices.maps import Map, MqttMap, Reading, check_map
+
+from . import sample
+from .machinery import PATIENCE, free_port
+
+try:
+    from pymodbus.server import ModbusTcpServer
+except ImportError:  # Debian 12 has version 3.0.
+    from pymodbus.server.async_io import ModbusTcpServer
+
+Value = TypeVar("Value")
+
+MQTT = """
+document = "home.json"
+[mqtt]
+[devices.ceiling]
+reach = "mqtt"
+state_topic = "stat/plug/RESULT"
+value_template = "{{ value_json.POWER }}"
+states = {ON = "on", OFF = "off"}
+ask_topic = "cmnd/plug/POWER"
+availability_topic = "tele/plug/LWT"
+payload_available = "Online"
+payload_not_available = "Offline"
+[devices.ceiling.actions]
+brighten = {topic = "cmnd/plug/POWER", payload = "ON"}
+dim = {topic = "cmnd/plug/POWER", payload = "OFF"}
+"""
+
+HTTP = """
+document = "home.json"
+[devices.ceiling]
+reach = "http"
+state_url = "http://127.0.0.1:80/relay/0"
+value_template = "{{ value_json.ison }}"
+states = {True = "on", False = "off"}
+[devices.ceiling.actions]
+brighten = {url = "?turn=on"}
+dim = {url = "?turn=off"}
+"""
+
+MODBUS = """
+document = "home.json"
+[devices.ceiling]
+reach = "modbus"
+host = "127.0.0.1"
+state = {input = 0}
+states = {0 = "off", 2 = "on"}
+[devices.ceiling.actions]
+brighten = {coil = 0, value = true}
+dim = {coil = 0, value = false}
+"""
+
+WHERE = "devices.ceiling"
+
+MISTAKES = [
+    (
+        MQTT,
+        'state_topic = "stat/plug/RESULT"\n',
+        "",
+        "state_topic is missing, on which the device answers to ask_topic",
+    ),
+    (
+        MQTT,
+        '"{{ value_json.POWER }}"',
+        '"{{ value_json.POWER"',
+        "value_template is '{{ value_json.POWER', and not a template: ",
+    ),
+    (MQTT, "value_json.POWER", "states('x')", "and not a template of value and value_json: it uses states"),
+    (
+        MQTT,
+        "value_json.POWER",
+        "value_json.POWER | celsius",
+        "value_template is '{{ value_json.POWER | celsius }}', and not",
+    ),
+    (MQTT, 'ON = "on"', "ON = true", "states.ON is True, and not the name of a state"),
+    (MQTT, 'ON = "on"', 'ON = "onn"', "states.ON is 'onn', and no state of lamp; known are off, on"),
+    (MQTT, 'ON = "on", ', "", "states has no value for on, to which brighten leads"),
+    (MQTT, "dim = {", "dimm = {", "actions.dimm is no action of lamp; known are brighten, dim"),
+    (MQTT, 'dim = {topic = "cmnd/plug/POWER", payload = "OFF"}\n', "", "actions.dim is missing, an action of lamp"),
+    (MQTT, 'topic = "cmnd/plug/POWER", payload = "OFF"', 'payload = "OFF"', "actions.dim.topic is missing"),
+    (MQTT, 'payload = "OFF"', 'load = "OFF"', "actions.dim.payload is missing"),
+    (
+        MQTT,
+        'payload = "OFF"',
+        'payload = "{{ value }}"',
+        "actions.dim.payload is '{{ value }}', and not a template of action",
+    ),
+    (MQTT, 'payload = "OFF"', 'payload = "OFF", qos = 1', "actions.dim.qos isn't known"),
+    (MQTT, 'payload = "OFF"', 'payload = "OFF", state = "of"', "actions.dim.state is 'of', and no state of lamp"),
+    (MQTT, '{topic = "cmnd/plug/POWER", payload = "OFF"}', '"OFF"', "actions.dim isn't a table"),
+    (
+        MQTT,
+        '"cmnd/plug/POWER", payload = "OFF"',
+        '"stat/plug/RESULT", payload = "OFF"',
+        "actions.dim.topic is 'stat/plug/RESULT', and so is",
+    ),
+    (MQTT, '"tele/plug/LWT"', '"tele/+/LWT"', "availability_topic is 'tele/+/LWT', and not a topic without"),
+    (MQTT, '"tele/plug/LWT"', '"roman/state"', "availability_topic is 'roman/state', and so is one of mqtt.prefix"),
+    (MQTT, "[mqtt]\n", "", "reach is 'mqtt', and there is no table [mqtt]"),
+    (MQTT, "ask_topic", "askk_topic", "askk_topic isn't known; did you mean ask_topic?"),
+    (
+        MQTT,
+        "ask_topic =",
+        'environments = {wet = "dawn"}\nask_topic =',
+        "environments.wet is 'dawn', and no state of the environment; known are day, dusk",
+    ),
+    (HTTP, 'state_url = "http://127.0.0.1:80/relay/0"\n', "", "actions.brighten.url is '?turn=on', and not a URL"),
+    (HTTP, '"?turn=off"', '"?turn=off", payload = "x", json = {}', "actions.dim.json is there, and so is payload"),
+    (HTTP, '"?turn=off"', '"?turn=off", json = {a = 1979-05-27}', "actions.dim.json is "),
+    (HTTP, '"?turn=off"', '"?turn=off", method = "TURN"', "actions.dim.method is 'TURN', and not one of"),
+    (
+        HTTP,
+        "[devices.ceiling.actions]",
+        'headers = {A = {file = "gone"}}\n[devices.ceiling.actions]',
+        "headers.A.file is 'gone', which can't be read",
+    ),
+    (
+        HTTP,
+        "[devices.ceiling.actions]",
+        "headers = {A = 1}\n[devices.ceiling.actions]",
+        "headers.A is neither a text nor a file",
+    ),
+    (
+        HTTP,
+        "[devices.ceiling.actions]",
+        "poll = 0\n[devices.ceiling.actions]",
+        "poll is 0, and not a number of seconds",
+    ),
+    (MODBUS, "{input = 0}", "{holding = 0}", "state has to name one of coil, discrete, register, input"),
+    (MODBUS, "{input = 0}", "{input = 0, coil = 1}", "state has to name one of coil, discrete, register, input"),
+    (MODBUS, "state = {input = 0}\n", "", "state is missing, as in state = {register = 10}"),
+    (MODBUS, "value = false", "value = 7", "actions.dim.value is 7, and not true or false"),
+    (
+        MODBUS,
+        "coil = 0, value = false",
+        "register = 0, value = 70000",
+        "actions.dim.value is 70000, and not a whole number",
+    ),
+    (MODBUS, "coil = 0, value = false", "input = 0, value = 7", "actions.dim has to name one of coil, register"),
+    (
+        MODBUS,
+        "[devices.ceiling.actions]\n",
+        "[devices.ceiling.acts]\n",
+        "actions is missing, as in a table [devices.ceiling.actions]",
+    ),
+]
+
+
+def read(folder: Path, text: str) -> HomeFile:
+    file = folder / "home.toml"
+    file.write_text(text, encoding="utf-8")
+    return HomeFile.read(file)
+
+
+def map_of(folder: Path, text: str) -> Map:
+    reach = read(folder, text).devices["ceiling"].reach
+    assert isinstance(reach, Map)
+    return reach
+
+
+@pytest.mark.parametrize("text, old, new, said", MISTAKES)
+def test_a_mistake_is_found_with_table_and_key(tmp_path: Path, text: str, old: str, new: str, said: str) -> None:
+    assert old in text
+    with pytest.raises(HomeFileError) as raised:
+        found = map_of(tmp_path, text.replace(old, new))
+        check_map(WHERE, found, Document.load(sample("home.json")), "lamp")
+    assert f"{WHERE}.{said}" in str(raised.value) or (said.startswith("and not") and said in str(raised.value))
+
+
+@pytest.mark.parametrize("text", [MQTT, HTTP, MODBUS])
+def test_these_maps_are_right(tmp_path: Path, text: str) -> None:
+    check_map(WHERE, map_of(tmp_path, text), Document.load(sample("home.json")), "lamp")
+
+
+def test_what_messages_stand_for(tmp_path: Path) -> None:
+    states = map_of(tmp_path, MQTT).states
+    assert states.read('{"POWER": "ON"}') == Reading("ON", "on")
+    assert states.read('{"POWER": "JAMMED"}') == Reading("JAMMED", None)
+    for other in ('{"Dimmer": 50}', "ON", "[1]", '{"POWER": ""}', '"POWER"', "{" * 100_000):
+        assert states.read(other) is None, other[:20]
+    bare = map_of(tmp_path, MQTT.replace('value_template = "{{ value_json.POWER }}"\n', "")).states
+    assert bare.read(" ON\n") == Reading("ON", "on")
+    free = map_of(tmp_path, MQTT.replace('states = {ON = "on", OFF = "off"}\n', "")).states
+    assert free.read('{"POWER": "anything"}') == Reading("anything", "anything")
+
+
+def test_a_template_is_in_a_sandbox(tmp_path: Path) -> None:
+    evil = "{{ ''.__class__.__mro__[1].__subclasses__() }}"
+    states = map_of(tmp_path, MQTT.replace("{{ value_json.POWER }}", evil)).states
+    assert states.read("x") is None
+
+
+@pytest.mark.parametrize(
+    "template, said",
+    [
+        ("{{ value_json.POWER | is_defined }}", "ON"),
+        ("{{ iif(value_json.POWER == 'ON', 'ON', 'OFF') }}", "ON"),
+        ("{{ (value | from_json).POWER }}", "ON"),
+        ("{{ value_json.level | float(7) | round | int }}", "7"),
+        ("{% if value_json.POWER %}{{ value_json.POWER }}{% endif %}", "ON"),
+        ("{{ value_json.a.b.c }}", None),
+        ("{{ value_json.gone | is_defined }}", None),
+        ("{{ 1 // 0 }}", None),
+    ],
+)
+def test_templates_of_home_assistant(tmp_path: Path, template: str, said: str | None) -> None:
+    reading = map_of(tmp_path, MQTT.replace("{{ value_json.POWER }}", template)).states.read('{"POWER": "ON"}')
+    assert (reading.said if reading is not None else None) == said
+
+
+class Heard:
+    """A listener that remembers what it was told."""
+
+    def __init__(self) -> None:
+        self.told: list[tuple[Any, ...]] = []
+
+    def moved(self, service: str, answer: Answer) -> None:
+        self.told.append(("moved", answer.state))
+
+    def answered(self, service: str) -> None:
+        self.told.append(("answered",))
+
+    def gone(self, service: str) -> None:
+        self.told.append(("gone",))
+
+    def late(self, service: str, text: str) -> None:
+        self.told.append(("late", text))
+
+
+class Broker:
+    """A broker that keeps what is sent, and gives a device's messages to those who listen."""
+
+    def __init__(self) -> None:
+        self.connected = True
+        self.sent: list[tuple[str, str]] = []
+        self._topics: dict[str, Callable[[bytes, bool], None]] = {}
+
+    def subscribe(self, topic: str, listener: Callable[[bytes, bool], None]) -> None:
+        self._topics[topic] = listener
+
+    def send_now(self, topic: str, text: str) -> bool:
+        self.sent.append((topic, text))
+        return self.connected
+
+    def say(self, topic: str, text: str, retained: bool = False) -> None:
+        self._topics[topic](text.encode(), retained)
+
+
+BRIGHTEN = Call("ceiling", "brighten", "brighten", 1)
+
+
+def outcomes(call: Call) -> set[tuple[str, str]]:
+    return {("on" if call.action == "brighten" else "off", "day")}
+
+
+class Plug:
+    """The plug of the map above, at a broker of its own."""
+
+    def __init__(self, found: Map, allowed: Outcomes = outcomes) -> None:
+        self.heard = Heard()
+        self.broker = Broker()
+        assert isinstance(found, MqttMap)
+        self.reach = make_mapped("ceiling", found, self.heard, self.broker, allowed)  # type: ignore[arg-type]
+
+    def result(self, power: str, retained: bool = False) -> None:
+        self.broker.say("stat/plug/RESULT", json.dumps({"POWER": power}), retained)
+
+    async def asked(self, work: Coroutine[None, None, Value]) -> asyncio.Task[Value]:
+        """Something that has been sent, and waits."""
+        task = asyncio.create_task(work)
+        sent = len(self.broker.sent)
+        while len(self.broker.sent) == sent and not task.done():
+            await asyncio.sleep(0)
+        return task
+
+
+def test_the_first_state_that_is_allowed_answers(tmp_path: Path) -> None:
+    async def run() -> None:
+        plug = Plug(map_of(tmp_path, MQTT))
+        await plug.reach.open()
+        call = await plug.asked(plug.reach.ask(1, BRIGHTEN))
+        assert plug.broker.sent == [("cmnd/plug/POWER", "ON")]
+        plug.result("OFF")
+        plug.result("ON", retained=True)
+        plug.broker.say("stat/plug/RESULT", '{"Dimmer": 5}')
+        await asyncio.sleep(0)
+        assert not call.done() and plug.heard.told == []
+        plug.result("ON")
+        plug.result("OFF")
+        assert (await call).state == "on"
+        assert plug.heard.told == [("answered",), ("moved", "off")]
+
+    asyncio.run(run())
+
+
+def test_the_environment_belongs_to_the_outcome(tmp_path: Path) -> None:
+    more = 'environment_template = "{{ value_json.Light }}"\nenvironments = {1 = "day", 0 = "dusk"}\nask_topic'
+
+    async def run() -> None:
+        plug = Plug(map_of(tmp_path, MQTT.replace("ask_topic", more, 1)))
+        await plug.reach.open()
+        call = await plug.asked(plug.reach.ask(1, BRIGHTEN))
+        plug.broker.say("stat/plug/RESULT", '{"POWER": "ON", "Light": 0}')
+        await asyncio.sleep(0)
+        assert not call.done()
+        plug.broker.say("stat/plug/RESULT", '{"POWER": "ON", "Light": 1}')
+        assert await call == Answer("on", "day")
+
+    asyncio.run(run())
+
+
+def test_a_state_without_a_command_is_a_move_by_hand(tmp_path: Path) -> None:
+    async def run() -> None:
+        plug = Plug(map_of(tmp_path, MQTT))
+        await plug.reach.open()
+        plug.result("ON", retained=True)
+        plug.result("OFF")
+        plug.result("JAMMED")
+        assert plug.heard.told == [("moved", "on"), ("moved", "off")]
+
+    asyncio.run(run())
+
+
+def test_it_is_asked_for_its_state(tmp_path: Path) -> None:
+    async def run() -> None:
+        plug = Plug(map_of(tmp_path, MQTT))
+        await plug.reach.open()
+        first, second = await plug.asked(plug.reach.tell(None)), await plug.asked(plug.reach.tell(None))
+        assert plug.broker.sent == [("cmnd/plug/POWER", "")] * 2
+        plug.result("ON")
+        assert await first == await second == Answer("on")
+        told = await plug.asked(plug.reach.tell(None))
+        plug.result("JAMMED")
+        with pytest.raises(DeviceFailed, match="^says 'JAMMED', which is in none of its states$"):
+            await told
+        plug.broker.connected = False
+        with pytest.raises(DeviceFailed, match="the broker can't be reached"):
+            await plug.reach.tell(None)
+        with pytest.raises(DeviceFailed, match="the broker can't be reached"):
+            await plug.reach.ask(2, BRIGHTEN)
+
+    asyncio.run(run())
+
+
+def test_one_that_can_not_be_asked_has_said_its_state(tmp_path: Path) -> None:
+    async def run() -> None:
+        plug = Plug(map_of(tmp_path, MQTT.replace('ask_topic = "cmnd/plug/POWER"\n', "")))
+        await plug.reach.open()
+        plug.result("ON", retained=True)
+        assert await plug.reach.tell(None) == Answer("on")
+        call = await plug.asked(plug.reach.ask(1, BRIGHTEN))
+        call.cancel()
+        with pytest.raises(asyncio.CancelledError):
+            await call
+        told = asyncio.ensure_future(plug.reach.tell(None))
+        await asyncio.sleep(0.01)
+        assert not told.done()  # What it said before the failure counts for nothing.
+        plug.result("OFF")
+        assert await told == Answer("off")
+
+    asyncio.run(run())
+
+
+def test_its_last_will(tmp_path: Path) -> None:
+    async def run() -> None:
+        plug = Plug(map_of(tmp_path, MQTT))
+        await plug.reach.open()
+        plug.broker.say("tele/plug/LWT", "Online", retained=True)
+        assert plug.heard.told == []
+        call = await plug.asked(plug.reach.ask(1, BRIGHTEN))
+        plug.broker.say("tele/plug/LWT", "Offline")
+        with pytest.raises(DeviceFailed, match="^isn't available$"):
+            await call
+        with pytest.raises(DeviceFailed, match="^isn't available$"):
+            await plug.reach.ask(2, BRIGHTEN)
+        plug.broker.say("tele/plug/LWT", "what")
+        plug.broker.say("tele/plug/LWT", "Online")
+        assert plug.heard.told == [("gone",), ("late", "is available again")]
+
+    asyncio.run(run())
+
+
+def test_one_that_says_no_state_is_believed(tmp_path: Path) -> None:
+    """A plug behind a radio gateway, which only sends."""
+    text = """
+    document = "home.json"
+    [mqtt]
+    [devices.ceiling]
+    reach = "mqtt"
+    command_topic = "home/OpenMQTTGateway/commands/MQTTtoRF"
+    [devices.ceiling.actions]
+    brighten = {payload = '{"value": 1381719, "id": {{ id }}}', state = "on"}
+    dim = {payload = '{"value": 1381716}', state = "off"}
+    """
+
+    async def run() -> None:
+        plug = Plug(map_of(tmp_path, text))
+        await plug.reach.open()
+        assert await plug.reach.ask(7, BRIGHTEN) == Answer("on")
+        assert plug.broker.sent == [("home/OpenMQTTGateway/commands/MQTTtoRF", '{"value": 1381719, "id": 7}')]
+        assert await plug.reach.tell(None) is None
+
+    asyncio.run(run())
+
+
+HUE = """
+document = "home.json"
+[devices.ceiling]
+reach = "http"
+state_url = "http://127.0.0.1:PORT/clip/v2/resource/light/1"
+value_template = "{{ value_json.data[0].on.on }}"
+states = {True = "on", False = "off"}
+headers = {hue-application-key = {file = "key"}}
+poll = 0.05
+[devices.ceiling.actions]
+brighten = {method = "PUT", url = "1", json = {on = {on = true}}}
+dim = {method = "PUT", url = "1", json = {on = {on = false}}}
+"""
+
+
+class Hue:
+    """A bridge of Philips Hue with one light."""
+
+    def __init__(self) -> None:
+        self.on = False
+        self.port = free_port()
+        self.broken = False
+
+    async def start(self) -> web.AppRunner:
+        app = web.Application()
+        where = "/clip/v2/resource/light/1"
+        app.add_routes([web.get(where, self._get), web.put(where, self._put)])
+        runner = web.AppRunner(app)
+        await runner.setup()
+        await web.TCPSite(runner, "127.0.0.1", self.port).start()
+        return runner
+
+    def _check(self, request: web.Request) -> None:
+        if request.headers.get("hue-application-key") != "secret":
+            raise web.HTTPForbidden()
+        if self.broken:
+            raise web.HTTPServiceUnavailable()
+
+    async def _get(self, request: web.Request) -> web.Response:
+        self._check(request)
+        return web.json_response({"errors": [], "data": [{"id": "1", "on": {"on": self.on}}]})
+
+    async def _put(self, request: web.Request) -> web.Response:
+        self._check(request)
+        self.on = (await request.json())["on"]["on"]
+        return web.json_response({"data": [{"rid": "1", "rtype": "light"}], "errors": []})
+
+
+async def until_told(heard: Heard, what: tuple[Any, ...]) -> None:
+    """Waits until the listener was told that."""
+    async with asyncio.timeout(PATIENCE):
+        while what not in heard.told:
+            await asyncio.sleep(0.01)
+
+
+def test_a_light_of_hue(tmp_path: Path) -> None:
+    (tmp_path / "key").write_text("secret\n", encoding="utf-8")
+
+    async def run() -> None:
+        bridge, heard = Hue(), Heard()
+        found = map_of(tmp_path, HUE.replace("PORT", str(bridge.port)))
+        reach: MappedReach = make_mapped("ceiling", found, heard, None, outcomes)
+        runner = await bridge.start()
+        await reach.open()
+        assert await reach.tell(None) == Answer("off")
+        assert await reach.ask(1, BRIGHTEN) == Answer("on")
+        assert bridge.on
+        heard.told.clear()
+        bridge.on = False
+        await until_told(heard, ("moved", "off"))
+        bridge.broken = True
+        await until_told(heard, ("gone",))
+        with pytest.raises(DeviceFailed, match=r"/light/1: status 503"):
+            await reach.ask(2, BRIGHTEN)
+        bridge.broken = False
+        heard.told.clear()
+        await until_told(heard, ("moved", "off"))
+        await reach.close()
+        await runner.cleanup()
+
+    asyncio.run(run())
+
+
+VALVE = """
+document = "home.json"
+[devices.ceiling]
+reach = "modbus"
+host = "127.0.0.1"
+port = PORT
+unit = 3
+state = {register = 4, count = 2}
+value_template = "{{ value_json[1] }}"
+states = {0 = "off", 1000 = "on"}
+poll = 0.05
+[devices.ceiling.actions]
+brighten = {register = 5, value = 1000}
+dim = {register = 5, value = 0}
+"""
+
+
+def test_a_valve_with_registers(tmp_path: Path) -> None:
+    """A valve whose place is a holding register, at the second of two units of one server."""
+
+    async def run() -> None:
+        port, heard = free_port(), Heard()
+        registers = ModbusSequentialDataBlock(0, [0] * 16)
+        units = {1: ModbusSlaveContext(zero_mode=True), 3: ModbusSlaveContext(hr=registers, zero_mode=True)}
+        server = ModbusTcpServer(ModbusServerContext(slaves=units, single=False), address=("127.0.0.1", port))
+        serving = asyncio.ensure_future(server.serve_forever())
+        await asyncio.wait_for(server.serving, PATIENCE)
+        reach = make_mapped("ceiling", map_of(tmp_path, VALVE.replace("PORT", str(port))), heard, None, outcomes)
+        assert await reach.tell(None) == Answer("off")
+        assert await reach.ask(1, BRIGHTEN) == Answer("on")
+        assert registers.getValues(5, 1) == [1000]
+        await reach.open()
+        registers.setValues(5, [0])
+        await until_told(heard, ("moved", "off"))
+        registers.setValues(5, [500])
+        with pytest.raises(DeviceFailed, match="^says '500', which is in none of its states$"):
+            await reach.tell(None)
+        other = make_mapped(
+            "ceiling",
+            map_of(tmp_path, VALVE.replace("PORT", str(port)).replace("= 4", "= 64000")),
+            heard,
+            None,
+            outcomes,
+        )
+        with pytest.raises(DeviceFailed, match="^refuses: "):
+            await other.tell(None)
+        await reach.close()
+        serving.cancel()
+        await server.server_close()
+        with pytest.raises(DeviceFailed, match=f"^127.0.0.1:{port} can't be reached$"):
+            await reach.tell(None)
+
+    asyncio.run(run())
