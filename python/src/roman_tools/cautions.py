@@ -70,13 +70,16 @@ Judged = Tuple[Finding, Optional[Mended]]
 class Judge:
     """Judges a system that breaks no rule."""
 
-    def __init__(self, system: System) -> None:
+    def __init__(self, system: System, known: Optional[Walk] = None) -> None:
+        """With the walk of a system, which is taken if this one has the same environment and targets."""
         self.system = system
         self.environment = system.environment
         self.taken = [self.environment.taken(each) for each in range(len(self.environment.actions))]
         self.live = [self.live_of(each) for each in system.behaviours]
         self.target_live = [self.live_of(each) for each in system.targets]
-        self.walk = Walk(system)
+        is_same = known is not None and known.system.environment is system.environment
+        is_same = is_same and known is not None and known.system.targets is system.targets
+        self.walk = known if known is not None and is_same else Walk(system)
 
     def live_of(self, machine: Machine) -> List[Step]:
         """The steps that some state of the environment allows."""
@@ -245,16 +248,18 @@ class Judge:
 MOST_CAUSES = 40
 """How many causes are tried for what follows from them."""
 
+MOST_STEPS = 1_000_000
+"""About how many steps of targets are walked for that."""
+
 
 def judged(system: System) -> List[Finding]:
     """The findings in a system, each cause before what follows from it: that is what wouldn't be found without it."""
-    mends = dict(Judge(system).judged())
+    judge = Judge(system)
+    mends = dict(judge.judged())
     findings = in_order(mends)
-    rests = {
-        each: set(Judge(mend()).findings())
-        for each, mend in [(each, mends[each]) for each in findings if mends[each] is not None][:MOST_CAUSES]
-        if mend is not None
-    }
+    most = min(MOST_CAUSES, 1 + MOST_STEPS // (1 + judge.walk.size))
+    tried = [(each, mend) for each in findings for mend in [mends[each]] if mend is not None][:most]
+    rests = {each: set(Judge(mend(), judge.walk).findings()) for each, mend in tried}
     # A cause from which another one follows comes first.
     ranked = sorted(rests, key=lambda each: -sum(other not in rests[each] for other in findings))
     causes: dict[Finding, Finding] = {}

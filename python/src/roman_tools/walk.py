@@ -4,12 +4,12 @@ from __future__ import annotations
 
 from collections import deque
 from dataclasses import dataclass
+from typing import NamedTuple
 
 from .systems import Machine, Step, System
 
 
-@dataclass(frozen=True)
-class Pair:
+class Pair(NamedTuple):
     """A state of each target, and one of the environment."""
 
     targets: tuple[int, ...]
@@ -55,6 +55,11 @@ class Walk:
                     if to not in self.came_by:
                         self.came_by[to] = (pair, self.title(seat, step))
                         waiting.append(to)
+
+    @property
+    def size(self) -> int:
+        """How many steps lead from one pair to another."""
+        return sum(len(each) for each in self.next.values())
 
     def allowed(self, pair: Pair) -> list[tuple[int, Step]]:
         """The steps that the targets allow in a pair, each with the number of its target."""

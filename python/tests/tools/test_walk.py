@@ -5,7 +5,10 @@ from pathlib import Path
 
 import pytest
 
+from roman_tools import cautions
 from roman_tools.lint import lint
+from roman_tools.systems import System
+from roman_tools.walk import Walk
 
 from . import TOP
 from .shell import CELL, edited, system, tool
@@ -101,3 +104,23 @@ def test_a_state_of_a_behaviour_that_nothing_leaves(folder: Path) -> None:
     Path("cell.json").write_text(text, encoding="utf-8")
     message = 'no step of behaviour "conveyor" leaves "stil", which isn\'t final; did you mean "still"?'
     assert [each.message for each in lint("cell.json")] == [message]
+
+
+def test_the_effort_for_consequences_is_bounded(folder: Path, monkeypatch: pytest.MonkeyPatch) -> None:
+    """In a large system fewer causes are tried, and all findings are shown."""
+    walks: list[object] = []
+    begin = Walk.__init__
+
+    def count(walk: Walk, of: System) -> None:
+        walks.append(walk)
+        begin(walk, of)
+
+    monkeypatch.setattr(Walk, "__init__", count)
+    Path("cell.json").write_text(edited(CELL, ('"screws": false', '"screws": "held and bench"')), encoding="utf-8")
+    assert len(lint("cell.json")) == 1
+    assert len(walks) == 1, "the cause is in a behaviour, so the target's states are the same without it"
+    monkeypatch.setattr(cautions, "MOST_STEPS", 0)
+    Path("cell.json").write_text(
+        edited(CELL, ('"place", "when": "held"', '"place", "when": "bench"')), encoding="utf-8"
+    )
+    assert len(lint("cell.json")) == 4
