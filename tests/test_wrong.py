@@ -27,8 +27,9 @@ EACH_BLOCK = "tests/test_guide.py::Guide::test_each_block_is_tried"
 TABLES = "tests/test_guide.py::Guide::test_the_tables_of_the_workshop"
 LATE = "tests/test_edges.py::Outside::test_output_that_is_read_late"
 ACCEPTED = "tests/test_schema.py::Schemas::test_what_the_program_accepts_the_schema_accepts"
-RANDOM = "tests/test_random.py::Random::test_the_fixed_seed_and_a_fresh_one"
-CORPUS = "tests/test_random.py::Random::test_what_failed_once"
+RANDOM = "tests/test_random.py::test_a_run_as_the_reference_says"
+SYNTH, CHECK, RUN_AS = (f"{RANDOM}[{kind}]" for kind in ("synth", "check", "run"))
+CORPUS = "tests/test_random.py::test_a_case_of_the_corpus"
 SPEED = "tests/test_speed.py::Speed"
 FAULTS = "tests/test_faults.py::Faults"
 FEW_BYTES = FAULTS + "::test_calls_that_move_few_bytes"
@@ -130,23 +131,23 @@ ENDED = "\nexit ${PIPESTATUS[0]}\n"
 
 WRONG = [
     Wrong("does nothing", "exit 0\n", [
-        LATE, EACH_BLOCK, TABLES, ACCEPTED, RANDOM, CORPUS, OTHER_SAMPLES, SAMPLES, f"{SPEED}::test_what_is_measured_is_right",
+        LATE, EACH_BLOCK, TABLES, ACCEPTED, SYNTH, CORPUS, OTHER_SAMPLES, SAMPLES, f"{SPEED}::test_what_is_measured_is_right",
         f"{FAULTS}::test_memory", f"{FAULTS}::test_reads", f"{FAULTS}::test_writes", FEW_BYTES, TRIED,
         f"{ENDS}::test_a_file_that_can_not_be_read", "tests/test_schema.py::Schemas::test_parts_by_file",
         "tests/test_edges.py::Outside::test_input_in_odd_pieces", f"{EVENTS}::test_each_refusal",
         f"{DISPATCHING}::test_a_failure_goes_to_another", STATES]),
     Wrong("always out of memory", "exit 9\n", [
-        ACCEPTED, EACH_BLOCK, RANDOM, OTHER_SAMPLES, SAMPLES, CORPUS, f"{FAULTS}::test_memory", FEW_BYTES, TRIED,
+        ACCEPTED, EACH_BLOCK, SYNTH, OTHER_SAMPLES, SAMPLES, CORPUS, f"{FAULTS}::test_memory", FEW_BYTES, TRIED,
         f"{EVENTS}::test_an_explanation"]),
     Wrong("no composition to each do", f"{RUN} | sed -u 's/^offer [^:]*$/no composition/'{ENDED}", [
-        TABLES, EACH_BLOCK, RANDOM, SAMPLES, OTHER_SAMPLES, TRIED, f"{DISPATCHING}::test_services_come_back",
+        TABLES, EACH_BLOCK, RUN_AS, SAMPLES, OTHER_SAMPLES, TRIED, f"{DISPATCHING}::test_services_come_back",
         "tests/test_edges.py::Outside::test_each_reply_comes_before_the_next_line_is_asked_for"]),
     Wrong("the first offer alone", f"{RUN} | sed -u -E 's/^(offer [^ :]+|offer [^ ]+: [^ ]+) .*/\\1/'{ENDED}", [
-        TABLES, EACH_BLOCK, RANDOM, SAMPLES, f"{EVENTS}::test_a_request", f"{DISPATCHING}::test_the_least_cost"]),
+        TABLES, EACH_BLOCK, RUN_AS, SAMPLES, f"{EVENTS}::test_a_request", f"{DISPATCHING}::test_the_least_cost"]),
     Wrong("all services are offered",
           'names=$("@ROMAN@" synth "$2" | sed -n "s/^service \\([^ ]*\\).*/ \\1/p" | tr -d "\\n")\n'
           f'{RUN} | sed -u "s/^offer [^:]*$/offer$names/"{ENDED}', [
-              TABLES, RANDOM, SAMPLES, OTHER_SAMPLES, f"{DISPATCHING}::test_a_failure_goes_to_another"]),
+              TABLES, RUN_AS, SAMPLES, OTHER_SAMPLES, f"{DISPATCHING}::test_a_failure_goes_to_another"]),
     Wrong("replies only at the end", f'kept=$(mktemp)\n{RUN} >"$kept"\nended=$?\ncat "$kept"\nrm "$kept"\nexit $ended\n', [
         "tests/test_edges.py::Outside::test_each_reply_comes_before_the_next_line_is_asked_for"]),
     Wrong("a report of the start after a jump",
@@ -155,17 +156,17 @@ WRONG = [
           '[ "$line" != jumped ] || jumped=1\n'
           'case $line in "pairs "*) [ -z "$jumped" ] || { echo "$start"; skips=1; } ;; esac\n'
           '[ -n "$skips" ] || echo "$line"\n'
-          f'[ "$line" != end ] || skips=\ndone{ENDED}', [SAMPLES, RANDOM, STATES, TRIED]),
+          f'[ "$line" != end ] || skips=\ndone{ENDED}', [SAMPLES, RUN_AS, STATES, TRIED]),
     Wrong("a certificate without its last line", f'{RUN} | if [ "$1" = certify ]; then head -n -1; else cat; fi{ENDED}', [
-        EACH_BLOCK, RANDOM]),
-    Wrong("half of a page is lost", f"{RUN} | {{ head -c 2048; head -c 2048 >/dev/null; cat; }}{ENDED}", [LATE, RANDOM]),
-    Wrong("the replies turned round by one", f"{RUN} | sed '1{{h;d}};${{p;x}}'{ENDED}", [TABLES, SAMPLES, RANDOM, EACH_BLOCK]),
+        EACH_BLOCK, SYNTH]),
+    Wrong("half of a page is lost", f"{RUN} | {{ head -c 2048; head -c 2048 >/dev/null; cat; }}{ENDED}", [LATE, RUN_AS]),
+    Wrong("the replies turned round by one", f"{RUN} | sed '1{{h;d}};${{p;x}}'{ENDED}", [TABLES, SAMPLES, RUN_AS, EACH_BLOCK]),
     Wrong("kept and added are swapped", f"{RUN} | sed -u -E 's/^kept (.*) added (.*)/kept \\2 added \\1/'{ENDED}", [
-        TABLES, RANDOM, SAMPLES, EACH_BLOCK, TRIED, f"{EVENTS}::test_changes"]),
+        TABLES, RUN_AS, SAMPLES, EACH_BLOCK, TRIED, f"{EVENTS}::test_changes"]),
     Wrong("an explanation without its first line", f"{RUN} | sed -u '0,/^lost /{{/^lost /d}}'{ENDED}", [
-        EACH_BLOCK, RANDOM, TRIED, f"{EVENTS}::test_an_explanation", f"{DISPATCHING}::test_no_composition_has_its_explanation"]),
+        EACH_BLOCK, RUN_AS, TRIED, f"{EVENTS}::test_an_explanation", f"{DISPATCHING}::test_no_composition_has_its_explanation"]),
     Wrong("a rejected certificate is fine", f'{RUN}\nended=$?\n[ "$1" = check ] && exit 0\nexit $ended\n', [
-        RANDOM, "tests/test_guide.py::Guide::test_the_rejections_of_certificates"]),
+        CHECK, "tests/test_guide.py::Guide::test_the_rejections_of_certificates"]),
     Wrong("nothing on the standard error", f"exec {RUN} 2>/dev/null\n", [
         f"{ENDS}::test_a_file_that_can_not_be_read", f"{ENDS}::test_an_input_that_can_not_be_read",
         f"{ENDS}::test_an_output_that_can_not_be_written", f"{ENDS}::test_a_session_that_is_too_long",
@@ -188,13 +189,13 @@ HARMLESS = Wrong("harmless", f"exec {RUN}\n", sorted(
 
 def failed(program: Path, test: str) -> "tuple[bool, str]":
     """Whether a test fails with a program, and what it says."""
-    environment = {**os.environ, "ROMAN": str(program), "ROMAN_CORPUS": "", "ROMAN_MEASURED": "lamps synth"}
+    environment = {**os.environ, "ROMAN": str(program), "ROMAN_MEASURED": "lamps synth"}
     words = [str(TOP / SAMPLES)]
     if test != SAMPLES:
-        words = [sys.executable, "-m", "pytest", "-q", test]
+        words = [sys.executable, "-m", "pytest", "-q", "--hypothesis-profile=wrong", test]
     done = subprocess.run(words, cwd=TOP, env=environment, capture_output=True, text=True, timeout=400, check=False)
     said = done.stdout + done.stderr
-    if test != SAMPLES and not re.search(rf"^1 {'failed' if done.returncode else 'passed'} in ", said, re.M):
+    if test != SAMPLES and not re.search(rf"^[0-9]+ {'failed' if done.returncode else 'passed'}.* in ", said, re.M):
         raise AssertionError(f"{test} wasn't run: {said}")
     return done.returncode != 0, said
 

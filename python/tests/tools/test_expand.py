@@ -2,7 +2,6 @@
 
 import json
 import os
-import random
 import re
 import subprocess
 import sys
@@ -11,6 +10,8 @@ import unittest
 from pathlib import Path
 from typing import Any, Callable, Dict, List, Tuple
 
+from hypothesis import given, settings
+from hypothesis import strategies as st
 from jsonschema import Draft202012Validator  # type: ignore[import]
 
 from roman_tools.documents import read
@@ -19,7 +20,7 @@ from roman_tools.lint import all_findings
 from roman_tools.writer import written
 
 from . import PROGRAM, TOP
-from .broken import Broken, seeds, walk
+from .broken import edited, many_documents, walk
 
 SCHEMA = json.loads((TOP / "schema" / "short.schema.json").read_text(encoding="utf-8"))
 SHORT = TOP / "samples" / "short"
@@ -275,6 +276,24 @@ class Machines(Folder):
         self.assertEqual(found["services"], [{"name": "m", "behaviour": "m"}])
 
 
+def joined(parts: list[tuple[Any, str]]) -> st.SearchStrategy[tuple[Any, str]]:
+    """Plans of parts, each with the regular expression of its sequences."""
+    inner = [plan for plan, _ in parts]
+    patterns = [pattern for _, pattern in parts]
+    return st.sampled_from(
+        [
+            (inner, "".join(patterns)),
+            ({"choice": inner}, f"(?:{'|'.join(patterns)})"),
+            ({"loop": inner[0]}, f"(?:{patterns[0]})*"),
+            ({"maybe": inner[0]}, f"(?:{patterns[0]})?"),
+        ]
+    )
+
+
+letters = st.sampled_from("abc").map(lambda letter: (letter, letter))
+plans = st.recursive(letters, lambda inner: st.lists(inner, min_size=1, max_size=3).flatmap(joined), max_leaves=12)
+
+
 class Plans(Folder):
     def target(self, **target: Any) -> Any:
         behaviour = {"name": "m", "count": 1, "steps": [["x", action, "x"] for action in "abc"]}
@@ -302,33 +321,20 @@ class Plans(Folder):
         self.assertEqual((after["after-a"], after["after-a-2"]), (["b", "c"], ["c"]))
 
     def test_random_plans_beside_regular_expressions(self) -> None:
-        for seed, kind in seeds(fixed=60, fresh=20).items():
-            chance = random.Random(seed)
-            plan, pattern = self.random_plan(chance, 4)
-            with self.subTest(seed=seed, kind=kind, pattern=pattern):
-                found = self.target(plan=plan)
-                after = {(step[0], step[2]): step[3] for step in found["steps"]}
-                self.assertEqual(len(after), len(found["steps"]))
-                for _ in range(40):
-                    word = "".join(chance.choice("abc") for _ in range(chance.randrange(7)))
-                    state = found["start"]
-                    for letter in word:
-                        state = after.get((state, letter))
-                    self.assertEqual(state in found["final"], re.fullmatch(pattern, word) is not None, word)
+        @settings(deadline=None)
+        @given(plans, st.lists(st.text("abc", max_size=6), min_size=10))
+        def compare(planned: tuple[Any, str], words: list[str]) -> None:
+            plan, pattern = planned
+            found = self.target(plan=plan)
+            after = {(step[0], step[2]): step[3] for step in found["steps"]}
+            self.assertEqual(len(after), len(found["steps"]))
+            for word in words:
+                state = found["start"]
+                for letter in word:
+                    state = after.get((state, letter))
+                self.assertEqual(state in found["final"], re.fullmatch(pattern, word) is not None, (pattern, word))
 
-    def random_plan(self, chance: random.Random, depth: int) -> Tuple[Any, str]:
-        """A plan, and the regular expression of its sequences."""
-        kind = chance.randrange(5) if depth else 0
-        if kind == 0:
-            letter = chance.choice("abc")
-            return letter, letter
-        parts = [self.random_plan(chance, depth - 1) for _ in range(chance.randrange(1, 4))]
-        if kind == 1:
-            return [plan for plan, _ in parts], "".join(pattern for _, pattern in parts)
-        if kind == 2:
-            return {"choice": [plan for plan, _ in parts]}, "(?:" + "|".join(pattern for _, pattern in parts) + ")"
-        word, sign = ("loop", "*") if kind == 3 else ("maybe", "?")
-        return {word: parts[0][0]}, f"(?:{parts[0][1]}){sign}"
+        compare()
 
 
 class Mistakes(Folder):
@@ -407,28 +413,26 @@ class Mistakes(Folder):
 
     def test_random_faults(self) -> None:
         """Never a traceback, and what is expanded the program takes."""
-        taken = 0
-        for seed, kind in seeds(fixed=150, fresh=60).items():
-            chance = random.Random(seed)
-            document = json.loads((SHORT / f"{chance.choice(('home', 'house'))}.json").read_text(encoding="utf-8"))
-            broken = Broken.__new__(Broken)
-            broken.chance = chance
-            for _ in range(chance.choice((1, 1, 2, 3))):
-                broken.edit(document)
-            document["roman"] = "short"
-            Path("s.json").write_text(json.dumps(document), encoding="utf-8")
-            with self.subTest(seed=seed, kind=kind):
-                checker = read("s.json")
-                errors = [each for each in all_findings(checker) if each.level is Level.ERROR]
-                self.assertEqual(checker.system is None, bool(errors))
-                for each in errors:
-                    each.shown()
-                if checker.system is not None:
-                    Path("plain.json").write_text(written(checker.system).text, encoding="utf-8")
-                    done = run(PROGRAM, "synth", "plain.json")
-                    self.assertIn(done.returncode, (0, 1, 4), done.stdout)
-                    taken += 1
-        self.assertGreater(taken, 20)
+        taken: list[int] = []
+        samples = [json.loads((SHORT / f"{name}.json").read_text(encoding="utf-8")) for name in ("home", "house")]
+
+        @many_documents
+        @given(st.sampled_from(samples).flatmap(edited))
+        def expand_it(document: Any) -> None:
+            Path("s.json").write_text(json.dumps({**document, "roman": "short"}), encoding="utf-8")
+            checker = read("s.json")
+            errors = [each for each in all_findings(checker) if each.level is Level.ERROR]
+            self.assertEqual(checker.system is None, bool(errors))
+            for each in errors:
+                each.shown()
+            if checker.system is not None:
+                Path("plain.json").write_text(written(checker.system).text, encoding="utf-8")
+                done = run(PROGRAM, "synth", "plain.json")
+                self.assertIn(done.returncode, (0, 1, 4), done.stdout)
+                taken.append(done.returncode)
+
+        expand_it()
+        self.assertGreater(len(taken), 20)
 
 
 class Command(Folder):

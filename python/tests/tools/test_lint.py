@@ -2,7 +2,6 @@
 
 import json
 import os
-import random
 import re
 import subprocess
 import sys
@@ -11,12 +10,14 @@ import unittest
 from pathlib import Path
 from typing import Iterator, List, Set, Tuple
 
+from hypothesis import given
+
 from roman_tools.documents import read
 from roman_tools.findings import Finding, Level
 from roman_tools.lint import all_findings, lint
 
 from . import PROGRAM, TOP
-from .broken import Broken, seeds
+from .broken import Broken, broken_documents, many_documents
 
 Row = Tuple[str, str, str]
 """A refusal without its document, a text of the sample, and what stands in its place: the faulty word between
@@ -553,28 +554,30 @@ class Random(Folder):
     """Documents with random faults: an error exactly where the program refuses, the first one the same."""
 
     def test_an_error_where_the_program_refuses(self) -> None:
-        refused = 0
-        for seed, kind in seeds(fixed=200, fresh=100).items():
-            broken = Broken(random.Random(seed))
+        refused: list[str] = []
+
+        @many_documents
+        @given(broken=broken_documents())
+        def compare(broken: Broken) -> None:
             broken.write(Path("."))
-            done = subprocess.run(
-                [PROGRAM, "synth", "broken.json"], capture_output=True, text=True, timeout=60, check=False
-            )
-            with self.subTest(seed=seed, kind=kind):
-                checker = read("broken.json")
-                found = all_findings(checker)
-                errors = [each for each in found if each.level is Level.ERROR]
-                if done.returncode == 5:
-                    self.assertNotEqual(errors, [])
-                    continue
-                said = done.stdout.rstrip("\n") if done.returncode == 3 else ""
-                self.assertEqual(str(checker.findings[0].refusal) if checker.findings else "", said)
-                self.assertEqual(bool(errors), done.returncode == 3)
-                for each in found:
-                    json.dumps(each.value()).encode()
-                    "\n".join(each.shown()).encode()
-                refused += done.returncode == 3
-        self.assertGreater(refused, 100)
+            words = [PROGRAM, "synth", "broken.json"]
+            done = subprocess.run(words, capture_output=True, text=True, timeout=60, check=False)
+            checker = read("broken.json")
+            found = all_findings(checker)
+            errors = [each for each in found if each.level is Level.ERROR]
+            if done.returncode == 5:
+                self.assertNotEqual(errors, [])
+                return
+            said = done.stdout.rstrip("\n") if done.returncode == 3 else ""
+            self.assertEqual(str(checker.findings[0].refusal) if checker.findings else "", said)
+            self.assertEqual(bool(errors), done.returncode == 3)
+            for each in found:
+                json.dumps(each.value()).encode()
+                "\n".join(each.shown()).encode()
+            refused.extend([said] if said else [])
+
+        compare()
+        self.assertGreater(len(refused), 100)
 
 
 if __name__ == "__main__":
