@@ -3,16 +3,17 @@ match in a line wins, of two at one place the end of what is open, and then the 
 
 import json
 import re
-import unittest
-from pathlib import Path
-from typing import Any, Dict, Iterator, List, Tuple
+from collections.abc import Iterator
+from typing import Any
 
 from . import TOP
 
 EDITOR = TOP / "tools" / "editor"
-Rule = Dict[str, Any]
-GRAMMARS: Dict[str, Rule] = {each["scopeName"]: each for each in (
-    json.loads(file.read_text(encoding="utf-8")) for file in sorted(EDITOR.glob("*.tmLanguage.json")))}
+Rule = dict[str, Any]
+GRAMMARS: dict[str, Rule] = {
+    each["scopeName"]: each
+    for each in (json.loads(file.read_text(encoding="utf-8")) for file in sorted(EDITOR.glob("*.tmLanguage.json")))
+}
 
 
 def expressions(rule: Any) -> Iterator[str]:
@@ -24,7 +25,7 @@ def expressions(rule: Any) -> Iterator[str]:
             yield from expressions(value)
 
 
-def rules(grammar: str, patterns: List[Rule]) -> Iterator[Tuple[str, Rule]]:
+def rules(grammar: str, patterns: list[Rule]) -> Iterator[tuple[str, Rule]]:
     """The rules that such patterns come to, each with its grammar."""
     for pattern in patterns:
         name = pattern.get("include")
@@ -38,7 +39,7 @@ def rules(grammar: str, patterns: List[Rule]) -> Iterator[Tuple[str, Rule]]:
             yield from rules(name, GRAMMARS[name]["patterns"])
 
 
-def captured(rule: Rule, found: "re.Match[str]", captures: str) -> List[Tuple[str, str]]:
+def captured(rule: Rule, found: "re.Match[str]", captures: str) -> list[tuple[str, str]]:
     """The groups of a match that have names, or else the whole of it."""
     parts = [(found[int(group)], each["name"]) for group, each in rule.get(captures, {}).items()]
     return [part for part in parts if part[0]] or [(found[0], rule.get("name", ""))]
@@ -48,8 +49,8 @@ class Reader:
     """Reads a text by a grammar, and knows which rules are open at its end."""
 
     def __init__(self, scope: str, text: str) -> None:
-        self.open: List[Tuple[str, Rule]] = [(scope, GRAMMARS[scope])]
-        self.found: List[Tuple[str, str]] = []
+        self.open: list[tuple[str, Rule]] = [(scope, GRAMMARS[scope])]
+        self.found: list[tuple[str, str]] = []
         for line in text.splitlines():
             self.read(line)
 
@@ -57,11 +58,21 @@ class Reader:
         place = 0
         while True:
             grammar, top = self.open[-1]
-            ends = [(found.start(), -1, grammar, top, found) for found in [re.compile(top["end"]).search(line, place)]
-                    if found] if "end" in top else []
-            starts = [(found.start(), number, where, rule, found)
-                      for number, (where, rule) in enumerate(rules(grammar, top.get("patterns", [])))
-                      for found in [re.compile(rule.get("match") or rule["begin"]).search(line, place)] if found]
+            ends = (
+                [
+                    (found.start(), -1, grammar, top, found)
+                    for found in [re.compile(top["end"]).search(line, place)]
+                    if found
+                ]
+                if "end" in top
+                else []
+            )
+            starts = [
+                (found.start(), number, where, rule, found)
+                for number, (where, rule) in enumerate(rules(grammar, top.get("patterns", [])))
+                for found in [re.compile(rule.get("match") or rule["begin"]).search(line, place)]
+                if found
+            ]
             if not ends + starts:
                 return
             _, number, where, rule, found = min(ends + starts, key=lambda each: each[:2])
@@ -80,7 +91,7 @@ class Reader:
         return next((scope for text, scope in self.found if text.strip() == word), "")
 
 
-RATTLE = '''#![tactic(auto)]
+RATTLE = """#![tactic(auto)]
 /// Whether state `e` is in the set.
 pub fn has(&self, e: u8) -> bool
     ensures* has { record { now = result } ≡ has_state self.now e }
@@ -90,61 +101,72 @@ pub fn has(&self, e: u8) -> bool
     MAX + first(b'{')
 }
 ghost use Rattle.std.specs.Prelude.{ℕ};
-'''
-ANTT = '''-- a line
+"""
+ANTT = """-- a line
 use Rattle.std.specs.Prelude.{ℕ, List}
 abbrev pub IsOrder : {N : Type 0} → List N → Type 0
 IsOrder L = grind (rules, 0x1f) ?
 order_new : ℕ
-'''
+"""
 
 
-class Grammars(unittest.TestCase):
-    def test_they_are_listed(self) -> None:
-        listed = json.loads((EDITOR / "package.json").read_text(encoding="utf-8"))["contributes"]["grammars"]
-        self.assertEqual({each["scopeName"] for each in listed}, {*GRAMMARS})
-        for each in listed:
-            grammar = json.loads((EDITOR / each["path"]).read_text(encoding="utf-8"))
-            self.assertEqual(grammar["scopeName"], each["scopeName"])
-
-    def test_the_expressions_compile(self) -> None:
-        for scope, grammar in GRAMMARS.items():
-            found = [*expressions(grammar)]
-            self.assertGreater(len(found), 5)
-            for each in found:
-                with self.subTest(scope, expression=each):
-                    re.compile(each)
-
-    def test_lines_of_rattle(self) -> None:
-        reader = Reader("source.rattle", RATTLE)
-        for word, kind in (
-            ("/// Whether state `e` is in the set.", "comment.line.documentation"), ("has", "entity.name.function"),
-            ("ensures", "keyword.other.clause"), ("record", "keyword.control.antt"), ("≡", "keyword.operator.antt"),
-            ("u8", "support.type"), ("let", "keyword.control"), ("// the end", "comment.line.double-slash"),
-            ("prove!", "support.function.macro"), ("64", "constant.numeric"), ("MAX", "constant.other"),
-            ("b'{'", "string.quoted.single"), ("ghost", "keyword.other.ghost"), ("ℕ", "entity.name.type.antt"),
-        ):
-            with self.subTest(word):
-                self.assertTrue(reader.scope_of(word).startswith(kind), reader.found)
-        self.assertEqual(len(reader.open), 1)
-
-    def test_lines_of_antt(self) -> None:
-        reader = Reader("source.antt", ANTT)
-        for word, kind in (
-            ("-- a line", "comment.line"), ("use", "keyword.control"), ("abbrev pub", "keyword.declaration"),
-            ("IsOrder", "entity.name.function"), ("→", "keyword.operator"), ("Type", "keyword.control"),
-            ("List", "entity.name.type"), ("grind", "support.function.tactic"), ("0x1f", "constant.numeric"),
-            ("?", "invalid.hole"), ("order_new", "entity.name.function"),
-        ):
-            with self.subTest(word):
-                self.assertTrue(reader.scope_of(word).startswith(kind), reader.found)
-
-    def test_nothing_stays_open_at_the_end_of_a_file(self) -> None:
-        for ending, scope in ((".rt", "source.rattle"), (".antt", "source.antt")):
-            for file in sorted((TOP / "crates" / "roman_guard").glob(f"s*/*{ending}")):
-                with self.subTest(file.name):
-                    self.assertEqual(len(Reader(scope, file.read_text(encoding="utf-8")).open), 1)
+def test_they_are_listed() -> None:
+    listed = json.loads((EDITOR / "package.json").read_text(encoding="utf-8"))["contributes"]["grammars"]
+    assert {each["scopeName"] for each in listed} == {*GRAMMARS}
+    for each in listed:
+        grammar = json.loads((EDITOR / each["path"]).read_text(encoding="utf-8"))
+        assert grammar["scopeName"] == each["scopeName"]
 
 
-if __name__ == "__main__":
-    unittest.main()
+def test_the_expressions_compile() -> None:
+    for scope, grammar in GRAMMARS.items():
+        found = [*expressions(grammar)]
+        assert len(found) > 5
+        for each in found:
+            re.compile(each)
+
+
+def test_lines_of_rattle() -> None:
+    reader = Reader("source.rattle", RATTLE)
+    for word, kind in (
+        ("/// Whether state `e` is in the set.", "comment.line.documentation"),
+        ("has", "entity.name.function"),
+        ("ensures", "keyword.other.clause"),
+        ("record", "keyword.control.antt"),
+        ("≡", "keyword.operator.antt"),
+        ("u8", "support.type"),
+        ("let", "keyword.control"),
+        ("// the end", "comment.line.double-slash"),
+        ("prove!", "support.function.macro"),
+        ("64", "constant.numeric"),
+        ("MAX", "constant.other"),
+        ("b'{'", "string.quoted.single"),
+        ("ghost", "keyword.other.ghost"),
+        ("ℕ", "entity.name.type.antt"),
+    ):
+        assert reader.scope_of(word).startswith(kind), reader.found
+    assert len(reader.open) == 1
+
+
+def test_lines_of_antt() -> None:
+    reader = Reader("source.antt", ANTT)
+    for word, kind in (
+        ("-- a line", "comment.line"),
+        ("use", "keyword.control"),
+        ("abbrev pub", "keyword.declaration"),
+        ("IsOrder", "entity.name.function"),
+        ("→", "keyword.operator"),
+        ("Type", "keyword.control"),
+        ("List", "entity.name.type"),
+        ("grind", "support.function.tactic"),
+        ("0x1f", "constant.numeric"),
+        ("?", "invalid.hole"),
+        ("order_new", "entity.name.function"),
+    ):
+        assert reader.scope_of(word).startswith(kind), reader.found
+
+
+def test_nothing_stays_open_at_the_end_of_a_file() -> None:
+    for ending, scope in ((".rt", "source.rattle"), (".antt", "source.antt")):
+        for file in sorted((TOP / "crates" / "roman_guard").glob(f"s*/*{ending}")):
+            assert len(Reader(scope, file.read_text(encoding="utf-8")).open) == 1

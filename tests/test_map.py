@@ -1,17 +1,15 @@
 """docs/crates.svg, which tools/map draws: its arrows are those of crates.txt, and no more than it takes."""
 
 import subprocess
-import unittest
 import xml.etree.ElementTree as xml
-from typing import Dict, Set, Tuple
 
 from . import TOP
 
 SVG = "{http://www.w3.org/2000/svg}"
-Arrows = Set[Tuple[str, str]]
+Arrows = set[tuple[str, str]]
 
 
-def listed() -> Dict[str, Set[str]]:
+def listed() -> dict[str, set[str]]:
     """The crates of crates.txt, each with those that it names."""
     lines = (TOP / "crates.txt").read_text(encoding="utf-8").splitlines()
     rows = [line.partition(":") for line in lines if line[:1] not in ("", "#")]
@@ -29,31 +27,28 @@ def reached(arrows: Arrows) -> Arrows:
         found |= more
 
 
-def titles(kind: str) -> Set[str]:
+def titles(kind: str) -> set[str]:
     """The titles of the nodes or edges of the picture."""
     groups = xml.parse(TOP / "docs" / "crates.svg").getroot().iter(SVG + "g")
     return {group.findtext(SVG + "title") or "" for group in groups if group.get("class") == kind}
 
 
-class Map(unittest.TestCase):
-    def test_the_crates_and_their_arrows(self) -> None:
-        names = {(name, other) for name, others in listed().items() for other in others}
-        arrows = {(name, other) for name, _, other in (title.partition("->") for title in titles("edge"))}
-        self.assertEqual(titles("node"), {*listed()})
-        self.assertEqual(reached(arrows), reached(names), "tools/map draws it anew")
-        for arrow in arrows:
-            self.assertNotIn(arrow, reached(arrows - {arrow}))
-
-    def test_the_tool_draws_the_same(self) -> None:
-        words = [str(TOP / "tools" / "map"), "--dot"]
-        done = subprocess.run(words, capture_output=True, text=True, check=False, timeout=60)
-        self.assertEqual((done.returncode, done.stderr), (0, ""))
-        drawn = {line.strip().replace(" -> ", "->") for line in done.stdout.splitlines() if " -> " in line}
-        self.assertEqual(drawn, titles("edge"))
-
-    def test_the_design_shows_it(self) -> None:
-        self.assertIn("](crates.svg)", (TOP / "docs" / "DESIGN.md").read_text(encoding="utf-8"))
+def test_the_crates_and_their_arrows() -> None:
+    names = {(name, other) for name, others in listed().items() for other in others}
+    arrows = {(name, other) for name, _, other in (title.partition("->") for title in titles("edge"))}
+    assert titles("node") == {*listed()}
+    assert reached(arrows) == reached(names), "tools/map draws it anew"
+    for arrow in arrows:
+        assert arrow not in reached(arrows - {arrow})
 
 
-if __name__ == "__main__":
-    unittest.main()
+def test_the_tool_draws_the_same() -> None:
+    words = [str(TOP / "tools" / "map"), "--dot"]
+    done = subprocess.run(words, capture_output=True, text=True, check=False, timeout=60)
+    assert (done.returncode, done.stderr) == (0, "")
+    drawn = {line.strip().replace(" -> ", "->") for line in done.stdout.splitlines() if " -> " in line}
+    assert drawn == titles("edge")
+
+
+def test_the_design_shows_it() -> None:
+    assert "](crates.svg)" in (TOP / "docs" / "DESIGN.md").read_text(encoding="utf-8")

@@ -3,20 +3,20 @@
 import copy
 import json
 import subprocess
-import tempfile
-import unittest
+from collections.abc import Callable, Iterator
 from pathlib import Path
-from typing import Any, Callable, Iterator, List, Tuple
+from typing import Any
 
+import pytest
 from jsonschema import Draft202012Validator
 
 from . import PROGRAM, TOP
 
 Edit = Callable[[Any], Any]
-Case = Tuple[str, Edit]
+Case = tuple[str, Edit]
 
-NO_TEXT: List[Any] = [None, 5, True, ["a"], {}]
-NO_LIST: List[Any] = [None, 5, "a", {}]
+NO_TEXT: list[Any] = [None, 5, True, ["a"], {}]
+NO_LIST: list[Any] = [None, 5, "a", {}]
 NO_NAME = ["", "a b", "é", "x" * 33, "a\n", "a.b"]
 
 
@@ -55,7 +55,7 @@ def set_at(*path: Any) -> Edit:
 MISSING = object()
 
 
-def states_of(states: List[str]) -> Edit:
+def states_of(states: list[str]) -> Edit:
     """An edit that gives both targets these states, and a step from the first to itself."""
 
     def edit(document: Any) -> Any:
@@ -67,7 +67,7 @@ def states_of(states: List[str]) -> Edit:
     return edit
 
 
-def with_actions(document: Any, actions: List[str], loops: List[Any]) -> Any:
+def with_actions(document: Any, actions: list[str], loops: list[Any]) -> Any:
     """The document with these actions of the environment, and these steps of both targets."""
     document["environment"]["actions"] = actions
     document["environment"]["steps"] = []
@@ -78,7 +78,7 @@ def with_actions(document: Any, actions: List[str], loops: List[Any]) -> Any:
     return document
 
 
-def names(kind: str, part: str, way: Tuple[Any, ...], member: str, most: int) -> Iterator[Case]:
+def names(kind: str, part: str, way: tuple[Any, ...], member: str, most: int) -> Iterator[Case]:
     """The refusals of a list of names."""
     place = f"{part} {member}"
     yield f"missing {place} 0", set_at(*way, member, MISSING)
@@ -92,7 +92,7 @@ def names(kind: str, part: str, way: Tuple[Any, ...], member: str, most: int) ->
         yield f"badname {place} 1", set_at(*way, member, ["a", value])
 
 
-def text(part: str, way: Tuple[Any, ...], member: str, bad: List[str]) -> Iterator[Case]:
+def text(part: str, way: tuple[Any, ...], member: str, bad: list[str]) -> Iterator[Case]:
     """The refusals of a member that is a name."""
     yield f"missing {part} {member} 0", set_at(*way, member, MISSING)
     for value in NO_TEXT:
@@ -101,7 +101,7 @@ def text(part: str, way: Tuple[Any, ...], member: str, bad: List[str]) -> Iterat
         yield f"badname {part} {member} 0", set_at(*way, member, value)
 
 
-def steps(part: str, way: Tuple[Any, ...], step: List[Any]) -> Iterator[Case]:
+def steps(part: str, way: tuple[Any, ...], step: list[Any]) -> Iterator[Case]:
     """The refusals of a list of steps, of which that one is right."""
     place = f"{part} steps"
     yield f"missing {place} 0", set_at(*way, "steps", MISSING)
@@ -123,7 +123,7 @@ def steps(part: str, way: Tuple[Any, ...], step: List[Any]) -> Iterator[Case]:
 
 def guards() -> Iterator[Any]:
     """Values that are no guards."""
-    flat: List[Any] = [None, 5, "day", {}, {"day": True}, {"not": True, "all": []}]
+    flat: list[Any] = [None, 5, "day", {}, {"day": True}, {"not": True, "all": []}]
     flat += [[5], [["day"]], [None], {"all": True}, {"any": {"not": True}}, {"any": ["day"]}]
     for guard in flat:
         yield guard
@@ -132,7 +132,7 @@ def guards() -> Iterator[Any]:
         yield {"any": [["day"], {"not": guard}]}
 
 
-def whole(part: str, way: Tuple[Any, ...], missing: bool) -> Iterator[Case]:
+def whole(part: str, way: tuple[Any, ...], missing: bool) -> Iterator[Case]:
     """The refusals of a part as a whole, and of one by file."""
     *before, last = way
     if missing:
@@ -166,7 +166,7 @@ def system() -> Iterator[Case]:
         yield f"count system 0 {member} 0", set_at(member, items)
 
 
-def machine(part: str, way: Tuple[Any, ...], step: List[Any], missing: bool) -> Iterator[Case]:
+def machine(part: str, way: tuple[Any, ...], step: list[Any], missing: bool) -> Iterator[Case]:
     """The refusals of a behaviour or a target."""
     yield from whole(part, way, missing)
     yield from names("states", part, way, "states", 64)
@@ -242,143 +242,137 @@ def accepted() -> Iterator[Edit]:
         yield set_at("target", "steps", [["quiet", guard, "brighten", "bright"]])
 
 
-class Schemas(unittest.TestCase):
-    def setUp(self) -> None:
-        folder = tempfile.TemporaryDirectory()
-        self.addCleanup(folder.cleanup)
-        self.folder = Path(folder.name)
-
-    def ask(self, document: Any) -> Tuple[int, str]:
-        """How the program takes a document: its status, and its line where it refuses. Where it doesn't, it
-        has to write a report, or that the system is over its limit."""
-        (self.folder / "s.json").write_text(json.dumps(document), encoding="utf-8")
-        done = subprocess.run(
-            [PROGRAM, "synth", "s.json"],
-            cwd=self.folder,
-            capture_output=True,
-            text=True,
-            timeout=60,
-            check=False,
-        )
-        first = {0: "pairs ", 1: "pairs ", 3: "refused ", 4: "limit "}.get(done.returncode, "no such status")
-        self.assertTrue(done.stdout.startswith(first), (done.returncode, done.stdout))
-        return done.returncode, done.stdout if done.returncode == 3 else ""
-
-    def test_samples_are_valid(self) -> None:
-        files = sorted((TOP / "samples").glob("*.json"))
-        parts = {"environment", "behaviour", "target"}
-        for file in files:
-            with self.subTest(file.name):
-                value = json.loads(file.read_text(encoding="utf-8"))
-                kind = file.name.split(".")[1]
-                if "roman" in value:
-                    self.assertEqual(list(SYSTEM.iter_errors(value)), [])
-                elif kind in parts:
-                    self.assertTrue(part_of(kind).is_valid(value))
-                else:
-                    self.fail("it is no system, and its name says no part")
-        self.assertGreater(len(files), 5)
-
-    def test_what_the_program_refuses_the_schema_refuses(self) -> None:
-        home = load("home")
-        for expected, edit in refusals():
-            version = 2 if " rests " in expected else 1
-            document = edit({**copy.deepcopy(home), "roman": version})
-            with self.subTest(expected):
-                self.assertEqual(self.ask(document), (3, f"refused s.json {expected}\n"))
-                self.assertFalse(SYSTEM.is_valid(document), document)
-
-    def test_several_targets(self) -> None:
-        lamps = set_at("environment", "states", ["e", "day"])(load("two"))
-        for expected, edit in several():
-            document = edit(copy.deepcopy(lamps))
-            with self.subTest(expected):
-                self.assertEqual(self.ask(document), (3, f"refused s.json {expected}\n"))
-                self.assertFalse(SYSTEM.is_valid(document), document)
-        for edit in (set_at("target", 5), set_at("targets", 0, "note", None)):
-            document = edit(copy.deepcopy(load("two")))
-            self.assertEqual(self.ask(document)[0], 0)
-            self.assertTrue(SYSTEM.is_valid(document))
-
-    def test_what_only_the_program_tells_of_several_targets(self) -> None:
-        actions = [f"a{number}" for number in range(17)]
-        loops = [["off", True, action, "on"] for action in actions]
-        long = [f"{'x' * 20}{number}" for number in range(2)]
-        for line, edit in (
-            ("repeated target 1 name 0", lambda d: set_at("targets", 1, "final", [])(set_at("targets", 1, "name", "a")(d))),
-            ("count system 0 targets 1", states_of([f"s{number}" for number in range(9)])),
-            ("count system 0 targets 2", lambda d: with_actions(d, actions, loops)),
-            ("badname system 0 targets 3", states_of(long)),
-            ("repeated system 0 targets 4", states_of(["x", "x-x"])),
-        ):
-            document = edit(copy.deepcopy(load("two")))
-            with self.subTest(line):
-                self.assertEqual(self.ask(document), (3, f"refused s.json {line}\n"))
-                self.assertTrue(SYSTEM.is_valid(document))
-
-    def test_what_the_program_accepts_the_schema_accepts(self) -> None:
-        for number, edit in enumerate(accepted()):
-            document = edit(copy.deepcopy(load("home")))
-            with self.subTest(number):
-                self.assertNotEqual(self.ask(document)[0], 3)
-                self.assertEqual([each.message for each in SYSTEM.iter_errors(document)], [])
-        document = {**load("home"), "roman": 1}
-        document["services"][0]["rests"] = 1
-        self.assertNotEqual(self.ask(document)[0], 3)
-        self.assertTrue(SYSTEM.is_valid(document))
-
-    def test_what_only_the_program_tells(self) -> None:
-        again = {"name": "lamp", "states": ["x"], "start": "x", "final": [], "steps": []}
-        either = [["quiet", True, "boil", "quiet"], ["quiet", ["day"], "boil", "bright"]]
-        for line, edit in (
-            ("unknown environment 0 start 0", set_at("environment", "start", "night")),
-            ("unknown service 0 behaviour 0", set_at("services", 0, "behaviour", "blinds")),
-            ("unknown target 0 steps 0", set_at("target", "steps", 0, 1, ["night"])),
-            ("repeated behaviour 2 name 0", set_at("behaviours", 2, again)),
-            ("choice target 0 steps 1 0 day", set_at("target", "steps", either)),
-            ("form system 0 roman 0", set_at("roman", 1.0)),
-        ):
-            document = edit(copy.deepcopy(load("home")))
-            with self.subTest(line):
-                self.assertEqual(self.ask(document), (3, f"refused s.json {line}\n"))
-                self.assertTrue(SYSTEM.is_valid(document))
-
-    def test_repeated_names_in_one_list(self) -> None:
-        document = set_at("environment", "states", ["day", "dusk", "day"])(load("home"))
-        self.assertEqual(self.ask(document)[1], "refused s.json repeated environment 0 states 2\n")
-        self.assertFalse(SYSTEM.is_valid(document))
-
-    def test_parts_by_file(self) -> None:
-        document = load("home")
-        lamp, document["behaviours"][1] = document["behaviours"][1], {"file": "lamp.json"}
-        (self.folder / "lamp.json").write_text(json.dumps(lamp), encoding="utf-8")
-        self.assertEqual(self.ask(document)[0], 0)
-        self.assertTrue(SYSTEM.is_valid(document))
-        self.assertTrue(part_of("behaviour").is_valid(lamp))
-        self.assertFalse(part_of("behaviour").is_valid({"file": "lamp.json"}))
-
-    def test_each_member_is_described(self) -> None:
-        for name in ("system.schema.json", "costs.schema.json", "home.schema.json"):
-            value = json.loads((TOP / "schema" / name).read_text(encoding="utf-8"))
-            self.assertEqual(list(undescribed(value, name)), [])
+def ask(folder: Path, document: Any) -> tuple[int, str]:
+    """How the program takes a document: its status, and its line where it refuses. Where it doesn't, it
+    has to write a report, or that the system is over its limit."""
+    (folder / "s.json").write_text(json.dumps(document), encoding="utf-8")
+    done = subprocess.run(
+        [PROGRAM, "synth", "s.json"],
+        cwd=folder,
+        capture_output=True,
+        text=True,
+        timeout=60,
+        check=False,
+    )
+    first = {0: "pairs ", 1: "pairs ", 3: "refused ", 4: "limit "}.get(done.returncode, "no such status")
+    assert done.stdout.startswith(first), (done.returncode, done.stdout)
+    return done.returncode, done.stdout if done.returncode == 3 else ""
 
 
-class Costs(unittest.TestCase):
-    def test_what_is_a_table_of_costs(self) -> None:
-        for value in ([], [["lamp", "on", 3]], [["a", "b", 0], ["a", "c", 1000000]]):
-            with self.subTest(value):
-                self.assertTrue(COSTS.is_valid(value))
+def test_samples_are_valid() -> None:
+    files = sorted((TOP / "samples").glob("*.json"))
+    parts = {"environment", "behaviour", "target"}
+    for file in files:
+        value = json.loads(file.read_text(encoding="utf-8"))
+        kind = file.name.split(".")[1]
+        if "roman" in value:
+            assert list(SYSTEM.iter_errors(value)) == []
+        elif kind in parts:
+            assert part_of(kind).is_valid(value)
+        else:
+            pytest.fail("it is no system, and its name says no part")
+    assert len(files) > 5
 
-    def test_what_is_none(self) -> None:
-        for item in (None, 5, [], ["lamp", "on"], ["lamp", "on", 3, 3], ["lamp", 3, "on"]):
-            with self.subTest(item):
-                self.assertFalse(COSTS.is_valid([item]))
-        for cost in (None, "3", -1, 1.5, 1000001, True):
-            with self.subTest(cost):
-                self.assertFalse(COSTS.is_valid([["lamp", "on", cost]]))
-        self.assertFalse(COSTS.is_valid({}))
-        self.assertFalse(COSTS.is_valid([["lamp", f"a{i}", 1] for i in range(1025)]))
-        self.assertFalse(COSTS.is_valid([["lamp", "on", 3], ["lamp", "on", 3]]))
+
+def test_what_the_program_refuses_the_schema_refuses(tmp_path: Path) -> None:
+    home = load("home")
+    for expected, edit in refusals():
+        version = 2 if " rests " in expected else 1
+        document = edit({**copy.deepcopy(home), "roman": version})
+        assert ask(tmp_path, document) == (3, f"refused s.json {expected}\n")
+        assert not SYSTEM.is_valid(document), document
+
+
+def test_several_targets(tmp_path: Path) -> None:
+    lamps = set_at("environment", "states", ["e", "day"])(load("two"))
+    for expected, edit in several():
+        document = edit(copy.deepcopy(lamps))
+        assert ask(tmp_path, document) == (3, f"refused s.json {expected}\n")
+        assert not SYSTEM.is_valid(document), document
+    for edit in (set_at("target", 5), set_at("targets", 0, "note", None)):
+        document = edit(copy.deepcopy(load("two")))
+        assert ask(tmp_path, document)[0] == 0
+        assert SYSTEM.is_valid(document)
+
+
+def test_what_only_the_program_tells_of_several_targets(tmp_path: Path) -> None:
+    actions = [f"a{number}" for number in range(17)]
+    loops = [["off", True, action, "on"] for action in actions]
+    long = [f"{'x' * 20}{number}" for number in range(2)]
+    for line, edit in (
+        ("repeated target 1 name 0", lambda d: set_at("targets", 1, "final", [])(set_at("targets", 1, "name", "a")(d))),
+        ("count system 0 targets 1", states_of([f"s{number}" for number in range(9)])),
+        ("count system 0 targets 2", lambda d: with_actions(d, actions, loops)),
+        ("badname system 0 targets 3", states_of(long)),
+        ("repeated system 0 targets 4", states_of(["x", "x-x"])),
+    ):
+        document = edit(copy.deepcopy(load("two")))
+        assert ask(tmp_path, document) == (3, f"refused s.json {line}\n")
+        assert SYSTEM.is_valid(document)
+
+
+def test_what_the_program_accepts_the_schema_accepts(tmp_path: Path) -> None:
+    for number, edit in enumerate(accepted()):
+        document = edit(copy.deepcopy(load("home")))
+        assert ask(tmp_path, document)[0] != 3
+        assert [each.message for each in SYSTEM.iter_errors(document)] == []
+    document = {**load("home"), "roman": 1}
+    document["services"][0]["rests"] = 1
+    assert ask(tmp_path, document)[0] != 3
+    assert SYSTEM.is_valid(document)
+
+
+def test_what_only_the_program_tells(tmp_path: Path) -> None:
+    again = {"name": "lamp", "states": ["x"], "start": "x", "final": [], "steps": []}
+    either = [["quiet", True, "boil", "quiet"], ["quiet", ["day"], "boil", "bright"]]
+    for line, edit in (
+        ("unknown environment 0 start 0", set_at("environment", "start", "night")),
+        ("unknown service 0 behaviour 0", set_at("services", 0, "behaviour", "blinds")),
+        ("unknown target 0 steps 0", set_at("target", "steps", 0, 1, ["night"])),
+        ("repeated behaviour 2 name 0", set_at("behaviours", 2, again)),
+        ("choice target 0 steps 1 0 day", set_at("target", "steps", either)),
+        ("form system 0 roman 0", set_at("roman", 1.0)),
+    ):
+        document = edit(copy.deepcopy(load("home")))
+        assert ask(tmp_path, document) == (3, f"refused s.json {line}\n")
+        assert SYSTEM.is_valid(document)
+
+
+def test_repeated_names_in_one_list(tmp_path: Path) -> None:
+    document = set_at("environment", "states", ["day", "dusk", "day"])(load("home"))
+    assert ask(tmp_path, document)[1] == "refused s.json repeated environment 0 states 2\n"
+    assert not SYSTEM.is_valid(document)
+
+
+def test_parts_by_file(tmp_path: Path) -> None:
+    document = load("home")
+    lamp, document["behaviours"][1] = document["behaviours"][1], {"file": "lamp.json"}
+    (tmp_path / "lamp.json").write_text(json.dumps(lamp), encoding="utf-8")
+    assert ask(tmp_path, document)[0] == 0
+    assert SYSTEM.is_valid(document)
+    assert part_of("behaviour").is_valid(lamp)
+    assert not part_of("behaviour").is_valid({"file": "lamp.json"})
+
+
+def test_each_member_is_described() -> None:
+    for name in ("system.schema.json", "costs.schema.json", "home.schema.json"):
+        value = json.loads((TOP / "schema" / name).read_text(encoding="utf-8"))
+        assert list(undescribed(value, name)) == []
+
+
+def test_what_is_a_table_of_costs() -> None:
+    for value in ([], [["lamp", "on", 3]], [["a", "b", 0], ["a", "c", 1000000]]):
+        assert COSTS.is_valid(value)
+
+
+def test_what_is_none() -> None:
+    for item in (None, 5, [], ["lamp", "on"], ["lamp", "on", 3, 3], ["lamp", 3, "on"]):
+        assert not COSTS.is_valid([item])
+    for cost in (None, "3", -1, 1.5, 1000001, True):
+        assert not COSTS.is_valid([["lamp", "on", cost]])
+    assert not COSTS.is_valid({})
+    assert not COSTS.is_valid([["lamp", f"a{i}", 1] for i in range(1025)])
+    assert not COSTS.is_valid([["lamp", "on", 3], ["lamp", "on", 3]])
 
 
 def part_of(name: str) -> Draft202012Validator:
@@ -402,15 +396,8 @@ def undescribed(value: Any, where: str) -> Iterator[str]:
         yield from undescribed(member, f"{where} {name}")
 
 
-class Copies(unittest.TestCase):
-    """The schemas that stand beside the samples, so that an editor finds them there too."""
-
-    def test_they_are_those_of_the_repository(self) -> None:
-        copies = sorted((TOP / "samples").glob("**/schema/*.json"))
-        self.assertEqual({file.name for file in copies}, {file.name for file in (TOP / "schema").glob("*.json")})
-        for file in copies:
-            with self.subTest(file):
-                self.assertEqual(file.read_bytes(), (TOP / "schema" / file.name).read_bytes())
-
-if __name__ == "__main__":
-    unittest.main()
+def test_they_are_those_of_the_repository() -> None:
+    copies = sorted((TOP / "samples").glob("**/schema/*.json"))
+    assert {file.name for file in copies} == {file.name for file in (TOP / "schema").glob("*.json")}
+    for file in copies:
+        assert file.read_bytes() == (TOP / "schema" / file.name).read_bytes()

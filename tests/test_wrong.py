@@ -7,12 +7,11 @@ import os
 import re
 import subprocess
 import sys
-import tempfile
-import unittest
+from collections.abc import Sequence
 from concurrent.futures import ThreadPoolExecutor
 from dataclasses import dataclass
+from functools import partial
 from pathlib import Path
-from typing import Sequence
 
 import pytest
 
@@ -26,7 +25,7 @@ SAMPLES = "samples/try"
 EACH_BLOCK = "tests/test_guide.py::Guide::test_each_block_is_tried"
 TABLES = "tests/test_guide.py::Guide::test_the_tables_of_the_workshop"
 LATE = "tests/test_edges.py::Outside::test_output_that_is_read_late"
-ACCEPTED = "tests/test_schema.py::Schemas::test_what_the_program_accepts_the_schema_accepts"
+ACCEPTED = "tests/test_schema.py::test_what_the_program_accepts_the_schema_accepts"
 RANDOM = "tests/test_random.py::test_a_run_as_the_reference_says"
 SYNTH, CHECK, RUN_AS = (f"{RANDOM}[{kind}]" for kind in ("synth", "check", "run"))
 CORPUS = "tests/test_random.py::test_a_case_of_the_corpus"
@@ -130,64 +129,171 @@ RUN = '"@ROMAN@" "$@"'
 ENDED = "\nexit ${PIPESTATUS[0]}\n"
 
 WRONG = [
-    Wrong("does nothing", "exit 0\n", [
-        LATE, EACH_BLOCK, TABLES, ACCEPTED, SYNTH, CORPUS, OTHER_SAMPLES, SAMPLES, f"{SPEED}::test_what_is_measured_is_right",
-        f"{FAULTS}::test_memory", f"{FAULTS}::test_reads", f"{FAULTS}::test_writes", FEW_BYTES, TRIED,
-        f"{ENDS}::test_a_file_that_can_not_be_read", "tests/test_schema.py::Schemas::test_parts_by_file",
-        "tests/test_edges.py::Outside::test_input_in_odd_pieces", f"{EVENTS}::test_each_refusal",
-        f"{DISPATCHING}::test_a_failure_goes_to_another", STATES]),
-    Wrong("always out of memory", "exit 9\n", [
-        ACCEPTED, EACH_BLOCK, SYNTH, OTHER_SAMPLES, SAMPLES, CORPUS, f"{FAULTS}::test_memory", FEW_BYTES, TRIED,
-        f"{EVENTS}::test_an_explanation"]),
-    Wrong("no composition to each do", f"{RUN} | sed -u 's/^offer [^:]*$/no composition/'{ENDED}", [
-        TABLES, EACH_BLOCK, RUN_AS, SAMPLES, OTHER_SAMPLES, TRIED, f"{DISPATCHING}::test_services_come_back",
-        "tests/test_edges.py::Outside::test_each_reply_comes_before_the_next_line_is_asked_for"]),
-    Wrong("the first offer alone", f"{RUN} | sed -u -E 's/^(offer [^ :]+|offer [^ ]+: [^ ]+) .*/\\1/'{ENDED}", [
-        TABLES, EACH_BLOCK, RUN_AS, SAMPLES, f"{EVENTS}::test_a_request", f"{DISPATCHING}::test_the_least_cost"]),
-    Wrong("all services are offered",
-          'names=$("@ROMAN@" synth "$2" | sed -n "s/^service \\([^ ]*\\).*/ \\1/p" | tr -d "\\n")\n'
-          f'{RUN} | sed -u "s/^offer [^:]*$/offer$names/"{ENDED}', [
-              TABLES, RUN_AS, SAMPLES, OTHER_SAMPLES, f"{DISPATCHING}::test_a_failure_goes_to_another"]),
-    Wrong("replies only at the end", f'kept=$(mktemp)\n{RUN} >"$kept"\nended=$?\ncat "$kept"\nrm "$kept"\nexit $ended\n', [
-        "tests/test_edges.py::Outside::test_each_reply_comes_before_the_next_line_is_asked_for"]),
-    Wrong("a report of the start after a jump",
-          'start=$("@ROMAN@" synth "$2")\n'
-          f'{RUN} | while IFS= read -r line; do\n'
-          '[ "$line" != jumped ] || jumped=1\n'
-          'case $line in "pairs "*) [ -z "$jumped" ] || { echo "$start"; skips=1; } ;; esac\n'
-          '[ -n "$skips" ] || echo "$line"\n'
-          f'[ "$line" != end ] || skips=\ndone{ENDED}', [SAMPLES, RUN_AS, STATES, TRIED]),
-    Wrong("a certificate without its last line", f'{RUN} | if [ "$1" = certify ]; then head -n -1; else cat; fi{ENDED}', [
-        EACH_BLOCK, SYNTH]),
-    Wrong("half of a page is lost", f"{RUN} | {{ head -c 2048; head -c 2048 >/dev/null; cat; }}{ENDED}", [LATE, RUN_AS]),
-    Wrong("the replies turned round by one", f"{RUN} | sed '1{{h;d}};${{p;x}}'{ENDED}", [TABLES, SAMPLES, RUN_AS, EACH_BLOCK]),
-    Wrong("kept and added are swapped", f"{RUN} | sed -u -E 's/^kept (.*) added (.*)/kept \\2 added \\1/'{ENDED}", [
-        TABLES, RUN_AS, SAMPLES, EACH_BLOCK, TRIED, f"{EVENTS}::test_changes"]),
-    Wrong("an explanation without its first line", f"{RUN} | sed -u '0,/^lost /{{/^lost /d}}'{ENDED}", [
-        EACH_BLOCK, RUN_AS, TRIED, f"{EVENTS}::test_an_explanation", f"{DISPATCHING}::test_no_composition_has_its_explanation"]),
-    Wrong("a rejected certificate is fine", f'{RUN}\nended=$?\n[ "$1" = check ] && exit 0\nexit $ended\n', [
-        CHECK, "tests/test_guide.py::Guide::test_the_rejections_of_certificates"]),
-    Wrong("nothing on the standard error", f"exec {RUN} 2>/dev/null\n", [
-        f"{ENDS}::test_a_file_that_can_not_be_read", f"{ENDS}::test_an_input_that_can_not_be_read",
-        f"{ENDS}::test_an_output_that_can_not_be_written", f"{ENDS}::test_a_session_that_is_too_long",
-        f"{ENDS}::test_a_system_past_its_limit", f"{ENDS}::test_advice_with_too_many_values"]),
-    Wrong("ten times the work",
-          f"for time in 1 2 3 4 5 6 7 8 9; do {RUN} </dev/null >/dev/null; done\nexec {RUN}\n", [f"{SPEED}::test_instructions"]),
+    Wrong(
+        "does nothing",
+        "exit 0\n",
+        [
+            LATE,
+            EACH_BLOCK,
+            TABLES,
+            ACCEPTED,
+            SYNTH,
+            CORPUS,
+            OTHER_SAMPLES,
+            SAMPLES,
+            f"{SPEED}::test_what_is_measured_is_right",
+            f"{FAULTS}::test_memory",
+            f"{FAULTS}::test_reads",
+            f"{FAULTS}::test_writes",
+            FEW_BYTES,
+            TRIED,
+            f"{ENDS}::test_a_file_that_can_not_be_read",
+            "tests/test_schema.py::test_parts_by_file",
+            "tests/test_edges.py::Outside::test_input_in_odd_pieces",
+            f"{EVENTS}::test_each_refusal",
+            f"{DISPATCHING}::test_a_failure_goes_to_another",
+            STATES,
+        ],
+    ),
+    Wrong(
+        "always out of memory",
+        "exit 9\n",
+        [
+            ACCEPTED,
+            EACH_BLOCK,
+            SYNTH,
+            OTHER_SAMPLES,
+            SAMPLES,
+            CORPUS,
+            f"{FAULTS}::test_memory",
+            FEW_BYTES,
+            TRIED,
+            f"{EVENTS}::test_an_explanation",
+        ],
+    ),
+    Wrong(
+        "no composition to each do",
+        f"{RUN} | sed -u 's/^offer [^:]*$/no composition/'{ENDED}",
+        [
+            TABLES,
+            EACH_BLOCK,
+            RUN_AS,
+            SAMPLES,
+            OTHER_SAMPLES,
+            TRIED,
+            f"{DISPATCHING}::test_services_come_back",
+            "tests/test_edges.py::Outside::test_each_reply_comes_before_the_next_line_is_asked_for",
+        ],
+    ),
+    Wrong(
+        "the first offer alone",
+        f"{RUN} | sed -u -E 's/^(offer [^ :]+|offer [^ ]+: [^ ]+) .*/\\1/'{ENDED}",
+        [TABLES, EACH_BLOCK, RUN_AS, SAMPLES, f"{EVENTS}::test_a_request", f"{DISPATCHING}::test_the_least_cost"],
+    ),
+    Wrong(
+        "all services are offered",
+        'names=$("@ROMAN@" synth "$2" | sed -n "s/^service \\([^ ]*\\).*/ \\1/p" | tr -d "\\n")\n'
+        f'{RUN} | sed -u "s/^offer [^:]*$/offer$names/"{ENDED}',
+        [TABLES, RUN_AS, SAMPLES, OTHER_SAMPLES, f"{DISPATCHING}::test_a_failure_goes_to_another"],
+    ),
+    Wrong(
+        "replies only at the end",
+        f'kept=$(mktemp)\n{RUN} >"$kept"\nended=$?\ncat "$kept"\nrm "$kept"\nexit $ended\n',
+        ["tests/test_edges.py::Outside::test_each_reply_comes_before_the_next_line_is_asked_for"],
+    ),
+    Wrong(
+        "a report of the start after a jump",
+        'start=$("@ROMAN@" synth "$2")\n'
+        f"{RUN} | while IFS= read -r line; do\n"
+        '[ "$line" != jumped ] || jumped=1\n'
+        'case $line in "pairs "*) [ -z "$jumped" ] || { echo "$start"; skips=1; } ;; esac\n'
+        '[ -n "$skips" ] || echo "$line"\n'
+        f'[ "$line" != end ] || skips=\ndone{ENDED}',
+        [SAMPLES, RUN_AS, STATES, TRIED],
+    ),
+    Wrong(
+        "a certificate without its last line",
+        f'{RUN} | if [ "$1" = certify ]; then head -n -1; else cat; fi{ENDED}',
+        [EACH_BLOCK, SYNTH],
+    ),
+    Wrong(
+        "half of a page is lost", f"{RUN} | {{ head -c 2048; head -c 2048 >/dev/null; cat; }}{ENDED}", [LATE, RUN_AS]
+    ),
+    Wrong(
+        "the replies turned round by one",
+        f"{RUN} | sed '1{{h;d}};${{p;x}}'{ENDED}",
+        [TABLES, SAMPLES, RUN_AS, EACH_BLOCK],
+    ),
+    Wrong(
+        "kept and added are swapped",
+        f"{RUN} | sed -u -E 's/^kept (.*) added (.*)/kept \\2 added \\1/'{ENDED}",
+        [TABLES, RUN_AS, SAMPLES, EACH_BLOCK, TRIED, f"{EVENTS}::test_changes"],
+    ),
+    Wrong(
+        "an explanation without its first line",
+        f"{RUN} | sed -u '0,/^lost /{{/^lost /d}}'{ENDED}",
+        [
+            EACH_BLOCK,
+            RUN_AS,
+            TRIED,
+            f"{EVENTS}::test_an_explanation",
+            f"{DISPATCHING}::test_no_composition_has_its_explanation",
+        ],
+    ),
+    Wrong(
+        "a rejected certificate is fine",
+        f'{RUN}\nended=$?\n[ "$1" = check ] && exit 0\nexit $ended\n',
+        [CHECK, "tests/test_guide.py::Guide::test_the_rejections_of_certificates"],
+    ),
+    Wrong(
+        "nothing on the standard error",
+        f"exec {RUN} 2>/dev/null\n",
+        [
+            f"{ENDS}::test_a_file_that_can_not_be_read",
+            f"{ENDS}::test_an_input_that_can_not_be_read",
+            f"{ENDS}::test_an_output_that_can_not_be_written",
+            f"{ENDS}::test_a_session_that_is_too_long",
+            f"{ENDS}::test_a_system_past_its_limit",
+            f"{ENDS}::test_advice_with_too_many_values",
+        ],
+    ),
+    Wrong(
+        "ten times the work",
+        f"for time in 1 2 3 4 5 6 7 8 9; do {RUN} </dev/null >/dev/null; done\nexec {RUN}\n",
+        [f"{SPEED}::test_instructions"],
+    ),
     Wrong("64 MB that nothing needs", TAKES_MEMORY, [f"{SPEED}::test_memory"], is_c=True),
-    Wrong("one write for all", ONE_WRITE, [
-        FEW_BYTES, f"{FAULTS}::test_calls_that_are_interrupted"], is_c=True, is_static=False),
+    Wrong(
+        "one write for all",
+        ONE_WRITE,
+        [FEW_BYTES, f"{FAULTS}::test_calls_that_are_interrupted"],
+        is_c=True,
+        is_static=False,
+    ),
     Wrong("done where memory ran out", ends_well(9), [f"{FAULTS}::test_memory"], is_c=True),
-    Wrong("done where nothing could be read", ends_well(5, 6), [
-        f"{FAULTS}::test_reads", "tests/test_edges.py::Outside::test_folders_and_files_that_are_not_there",
-        CLIENT + "test_session.py::Ends::test_a_document_that_is_not_there"], is_c=True),
-    Wrong("done where nothing could be written", ends_well(7), [
-        f"{FAULTS}::test_writes", "tests/test_edges.py::Outside::test_output_that_is_closed"], is_c=True),
+    Wrong(
+        "done where nothing could be read",
+        ends_well(5, 6),
+        [
+            f"{FAULTS}::test_reads",
+            "tests/test_edges.py::Outside::test_folders_and_files_that_are_not_there",
+            CLIENT + "test_session.py::Ends::test_a_document_that_is_not_there",
+        ],
+        is_c=True,
+    ),
+    Wrong(
+        "done where nothing could be written",
+        ends_well(7),
+        [f"{FAULTS}::test_writes", "tests/test_edges.py::Outside::test_output_that_is_closed"],
+        is_c=True,
+    ),
 ]
-HARMLESS = Wrong("harmless", f"exec {RUN}\n", sorted(
-    {test for each in WRONG for test in each.tests if not test.startswith(LONG)}))
+HARMLESS = Wrong(
+    "harmless", f"exec {RUN}\n", sorted({test for each in WRONG for test in each.tests if not test.startswith(LONG)})
+)
 
 
-def failed(program: Path, test: str) -> "tuple[bool, str]":
+def failed(program: Path, test: str) -> tuple[bool, str]:
     """Whether a test fails with a program, and what it says."""
     environment = {**os.environ, "ROMAN": str(program), "ROMAN_MEASURED": "lamps synth"}
     words = [str(TOP / SAMPLES)]
@@ -200,26 +306,18 @@ def failed(program: Path, test: str) -> "tuple[bool, str]":
     return done.returncode != 0, said
 
 
-class TestsOfTests(unittest.TestCase):
-    def setUp(self) -> None:
-        folder = tempfile.TemporaryDirectory()
-        self.addCleanup(folder.cleanup)
-        self.folder = Path(folder.name)
-
-    def test_each_wrong_program_fails_its_tests(self) -> None:
-        tried = [(each.name, each.write(self.folder), test) for each in WRONG for test in each.tests]
-        with ThreadPoolExecutor(4) as pool:
-            for (name, _, test), (fails, _) in zip(tried, pool.map(lambda each: failed(*each[1:]), tried)):
-                with self.subTest(program=name, test=test):
-                    self.assertTrue(fails, "it passes with a wrong program")
-
-    def test_a_harmless_program_passes_them(self) -> None:
-        program = HARMLESS.write(self.folder)
-        with ThreadPoolExecutor(4) as pool:
-            for test, (fails, said) in zip(HARMLESS.tests, pool.map(lambda each: failed(program, each), HARMLESS.tests)):
-                with self.subTest(test):
-                    self.assertFalse(fails, said)
+@pytest.mark.parametrize("wrong", WRONG, ids=lambda wrong: wrong.name)
+def test_a_wrong_program_fails_its_tests(wrong: Wrong, tmp_path: Path) -> None:
+    program = wrong.write(tmp_path)
+    with ThreadPoolExecutor(4) as pool:
+        passed = [
+            test for test, (fails, _) in zip(wrong.tests, pool.map(partial(failed, program), wrong.tests)) if not fails
+        ]
+    assert passed == []
 
 
-if __name__ == "__main__":
-    unittest.main()
+def test_a_harmless_program_passes_them(tmp_path: Path) -> None:
+    program = HARMLESS.write(tmp_path)
+    with ThreadPoolExecutor(4) as pool:
+        said = [text for fails, text in pool.map(partial(failed, program), HARMLESS.tests) if fails]
+    assert said == []
