@@ -16,6 +16,7 @@ SHELF_FAULT, READ_FAULT, WRITE_FAULT, TOO_LONG, MEMORY = 5, 6, 7, 8, 9
 @dataclass(frozen=True)
 class Ended:
     """How a run ended: its status, and what it wrote to standard output."""
+
     status: int
     text: bytes
 
@@ -24,6 +25,13 @@ def run(words, folder, session=b"", environment=None, **streams):
     """Runs the program in a folder until it ends."""
     given = {"input": session} if "stdin" not in streams else {}
     streams.setdefault("stdout", subprocess.PIPE)
-    ended = subprocess.run([ROMAN, *words], cwd=folder, stderr=subprocess.DEVNULL, timeout=60,
-                           env={**os.environ, **(environment or {})}, **given, **streams)
+    ended = subprocess.run(
+        [ROMAN, *words],
+        cwd=folder,
+        stderr=subprocess.DEVNULL,
+        timeout=60,
+        env={**os.environ, **(environment or {})},
+        **given,
+        **streams,
+    )
     return Ended(ended.returncode, ended.stdout or b"")

@@ -11,8 +11,9 @@ import itertools
 import json
 import math
 import re
+from collections.abc import Callable, Iterable, Iterator, Mapping, Sequence
 from dataclasses import dataclass, replace
-from typing import Any, Callable, Dict, FrozenSet, Iterable, Iterator, List, Mapping, NoReturn, Optional, Sequence, Set, Tuple
+from typing import Any, NoReturn
 
 DONE, NO, USAGE, REFUSED, LIMIT, SHELF_FAULT = 0, 1, 2, 3, 4, 5
 USAGE_LINE = (
@@ -23,7 +24,7 @@ TEXT_BYTES, DEEPEST, MOST_STATES, MOST_ITEMS, MOST_STEPS = 1_048_576, 127, 64, 3
 DEFAULT_LIMIT, GREATEST_LIMIT, MOST_VALUES, MOST_COSTS, GREATEST_COST = 262_144, 16_777_216, 1_048_576, 1_024, 1_000_000
 NAME = re.compile(r"[A-Za-z0-9_-]{1,32}")
 
-Pair = Tuple[int, ...]
+Pair = tuple[int, ...]
 """The states of the target, of the environment, and of each service."""
 Shelf = Mapping[str, bytes]
 """The texts of the files that are there."""
@@ -44,7 +45,7 @@ class Absent(Exception):
 # Texts of JSON.
 
 
-class Members(List[Tuple[str, Any]]):
+class Members(list[tuple[str, Any]]):
     """The members of an object as they stand in the text, repeated ones too."""
 
 
@@ -77,8 +78,15 @@ def plain(value: Any, depth: int = 0) -> Any:
 
 def parsed(text: bytes) -> Any:
     """The value of a text. ValueError or RecursionError where it has none."""
-    return plain(json.loads(text.decode(), parse_int=number_of, parse_float=number_of,
-                            parse_constant=no_constant, object_pairs_hook=Members))
+    return plain(
+        json.loads(
+            text.decode(),
+            parse_int=number_of,
+            parse_float=number_of,
+            parse_constant=no_constant,
+            object_pairs_hook=Members,
+        )
+    )
 
 
 # Documents.
@@ -88,10 +96,10 @@ def parsed(text: bytes) -> Any:
 class World:
     """The environment: where an action may lead from a state."""
 
-    states: List[str]
+    states: list[str]
     start: int
-    actions: List[str]
-    moves: FrozenSet[Tuple[int, int, int]]
+    actions: list[str]
+    moves: frozenset[tuple[int, int, int]]
 
 
 @dataclass(frozen=True)
@@ -99,10 +107,10 @@ class Machine:
     """A behaviour or a target. A step is (state, environment state, action, state)."""
 
     name: str
-    states: List[str]
+    states: list[str]
     start: int
-    final: FrozenSet[int]
-    steps: FrozenSet[Tuple[int, int, int, int]]
+    final: frozenset[int]
+    steps: frozenset[tuple[int, int, int, int]]
 
 
 @dataclass(frozen=True)
@@ -118,8 +126,8 @@ class Service:
 class Library:
     limit: int
     world: World
-    catalogue: List[Machine]
-    services: List[Service]
+    catalogue: list[Machine]
+    services: list[Service]
     target: Machine
 
 
@@ -149,7 +157,7 @@ class Reader:
         except (ValueError, RecursionError):
             self.refuse("notjson", "whole")
 
-    def part_of(self, value: Any) -> Tuple["Reader", Any]:
+    def part_of(self, value: Any) -> tuple[Reader, Any]:
         """A part, from its file where it is given by one."""
         if isinstance(value, dict) and "file" in value:
             name = value["file"]
@@ -159,7 +167,7 @@ class Reader:
             return inside.whole(inside.load())
         return self.whole(value)
 
-    def whole(self, value: Any) -> Tuple["Reader", Any]:
+    def whole(self, value: Any) -> tuple[Reader, Any]:
         self.check(isinstance(value, dict), "form", "whole")
         return self, value
 
@@ -167,7 +175,7 @@ class Reader:
         self.check(member in value, "missing", member)
         return value[member]
 
-    def items(self, value: Any, member: str, least: int, most: float) -> List[Any]:
+    def items(self, value: Any, member: str, least: int, most: float) -> list[Any]:
         items = self.member(value, member)
         self.check(isinstance(items, list), "form", member)
         self.check(least <= len(items) <= most, "count", member)
@@ -183,7 +191,7 @@ class Reader:
         self.check(NAME.fullmatch(name) is not None, "badname", member, index)
         self.check(name not in earlier, "repeated", member, index)
 
-    def names(self, value: Any, member: str, most: int) -> List[str]:
+    def names(self, value: Any, member: str, most: int) -> list[str]:
         names = self.items(value, member, 1, most)
         for index, name in enumerate(names):
             self.name_at(name, names[:index], member, index)
@@ -194,7 +202,7 @@ class Reader:
         self.check(name in names, "unknown", member, index)
         return names.index(name)
 
-    def guard(self, value: Any, states: List[str], index: int) -> FrozenSet[int]:
+    def guard(self, value: Any, states: list[str], index: int) -> frozenset[int]:
         """The states of the environment that a guard means."""
         every = frozenset(range(len(states)))
         if isinstance(value, bool):
@@ -216,25 +224,34 @@ class Reader:
         moves = set()
         for index, step in enumerate(self.items(value, "steps", 0, MOST_STEPS)):
             self.check(isinstance(step, list) and len(step) == 3, "form", "steps", index)
-            moves.add(tuple(self.known(each, names, "steps", index)
-                            for each, names in zip(step, (states, actions, states))))
+            moves.add(
+                tuple(self.known(each, names, "steps", index) for each, names in zip(step, (states, actions, states)))
+            )
         return World(states, first, actions, frozenset(moves))  # type: ignore[arg-type]
 
     def machine(self, value: Any, name: str, world: World, deterministic: bool) -> Machine:
         states, start = self.names(value, "states", MOST_STATES), self.member(value, "start")
         first = self.known(start, states, "start")
-        final = frozenset(self.known(each, states, "final", index)
-                          for index, each in enumerate(self.items(value, "final", 0, math.inf)))
-        read: List[Tuple[int, FrozenSet[int], int, int]] = []
+        final = frozenset(
+            self.known(each, states, "final", index)
+            for index, each in enumerate(self.items(value, "final", 0, math.inf))
+        )
+        read: list[tuple[int, frozenset[int], int, int]] = []
         for index, step in enumerate(self.items(value, "steps", 0, MOST_STEPS)):
             self.check(isinstance(step, list) and len(step) == 4, "form", "steps", index)
-            read.append((self.known(step[0], states, "steps", index), self.guard(step[1], world.states, index),
-                         self.known(step[2], world.actions, "steps", index), self.known(step[3], states, "steps", index)))
+            read.append(
+                (
+                    self.known(step[0], states, "steps", index),
+                    self.guard(step[1], world.states, index),
+                    self.known(step[2], world.actions, "steps", index),
+                    self.known(step[3], states, "steps", index),
+                )
+            )
         if deterministic:
             self.choice(read, world)
         return Machine(name, states, first, final, frozenset((b, e, a, c) for b, met, a, c in read for e in met))
 
-    def choice(self, steps: List[Tuple[int, FrozenSet[int], int, int]], world: World) -> None:
+    def choice(self, steps: list[tuple[int, frozenset[int], int, int]], world: World) -> None:
         """Refuses a target that has two ways to go."""
         for later, (b, met, a, c) in enumerate(steps):
             for earlier, (b2, met2, a2, c2) in enumerate(steps[:later]):
@@ -256,12 +273,12 @@ def read_library(shelf: Shelf, file: str) -> Library:
     place.check("environment" in system, "missing", "whole")
     inside, value = place.part_of(system["environment"])
     world = inside.world(value)
-    catalogue: List[Machine] = []
+    catalogue: list[Machine] = []
     for number, value in enumerate(top.items(system, "behaviours", 0, MOST_ITEMS)):
         inside, value = Reader(shelf, file, "behaviour", number).part_of(value)
         name = inside.name(value, [each.name for each in catalogue])
         catalogue.append(inside.machine(value, name, world, False))
-    services: List[Service] = []
+    services: list[Service] = []
     for number, value in enumerate(top.items(system, "services", 0, MOST_ITEMS)):
         inside, value = Reader(shelf, file, "service", number).whole(value)
         services.append(read_service(inside, value, services, catalogue, version))
@@ -270,7 +287,7 @@ def read_library(shelf: Shelf, file: str) -> Library:
         place.check("target" in system, "missing", "whole")
         inside, value = place.part_of(system["target"])
         return Library(limit, world, catalogue, services, inside.machine(value, "", world, True))
-    targets: List[Machine] = []
+    targets: list[Machine] = []
     for number, value in enumerate(top.items(system, "targets", 2, 4)):
         inside, value = Reader(shelf, file, "target", number).part_of(value)
         name = inside.name(value, [each.name for each in targets])
@@ -282,7 +299,7 @@ def is_count(value: Any) -> bool:
     return isinstance(value, int) and not isinstance(value, bool)
 
 
-def read_service(place: Reader, value: Any, earlier: List[Service], catalogue: List[Machine], version: int) -> Service:
+def read_service(place: Reader, value: Any, earlier: list[Service], catalogue: list[Machine], version: int) -> Service:
     name = place.name(value, [each.name for each in earlier])
     kind = place.member(value, "behaviour")
     machine = catalogue[place.known(kind, [each.name for each in catalogue], "behaviour")]
@@ -294,11 +311,15 @@ def read_service(place: Reader, value: Any, earlier: List[Service], catalogue: L
     return Service(name, machine, state, flags["frozen"], flags["rests"])
 
 
-def combined(top: Reader, library: Library, targets: List[Machine]) -> Library:
+def combined(top: Reader, library: Library, targets: list[Machine]) -> Library:
     """Several targets as one: a request moves its own target, and the others stay."""
     world = library.world
-    asked = [(number, action) for number, target in enumerate(targets) for action in range(len(world.actions))
-             if any(step[2] == action for step in target.steps)]
+    asked = [
+        (number, action)
+        for number, target in enumerate(targets)
+        for action in range(len(world.actions))
+        if any(step[2] == action for step in target.steps)
+    ]
     count = math.prod(len(target.states) for target in targets)
     top.check(count <= MOST_STATES, "count", "targets", 1)
     top.check(1 <= len(asked) <= MOST_ITEMS, "count", "targets", 2)
@@ -310,21 +331,31 @@ def combined(top: Reader, library: Library, targets: List[Machine]) -> Library:
     numbers = {place: number for number, place in enumerate(places)}
 
     def renamed(machine: Machine) -> Machine:
-        return replace(machine, steps=frozenset(
-            (b, e, new, c) for b, e, a, c in machine.steps for new, (_, action) in enumerate(asked) if a == action))
+        return replace(
+            machine,
+            steps=frozenset(
+                (b, e, new, c) for b, e, a, c in machine.steps for new, (_, action) in enumerate(asked) if a == action
+            ),
+        )
 
     steps = frozenset(
-        (numbers[place], e, new, numbers[(*place[:number], c, *place[number + 1:])])
-        for place in places for new, (number, action) in enumerate(asked)
-        for b, e, a, c in targets[number].steps if (b, a) == (place[number], action))
+        (numbers[place], e, new, numbers[(*place[:number], c, *place[number + 1 :])])
+        for place in places
+        for new, (number, action) in enumerate(asked)
+        for b, e, a, c in targets[number].steps
+        if (b, a) == (place[number], action)
+    )
     final = frozenset(numbers[place] for place in places if all(b in target.final for target, b in zip(targets, place)))
     start = numbers[tuple(target.start for target in targets)]
     moves = frozenset((e, new, to) for e, a, to in world.moves for new, (_, action) in enumerate(asked) if a == action)
     kinds = {machine.name: renamed(machine) for machine in library.catalogue}
     return replace(
-        library, world=World(world.states, world.start, actions, moves), catalogue=list(kinds.values()),
+        library,
+        world=World(world.states, world.start, actions, moves),
+        catalogue=list(kinds.values()),
         services=[replace(each, machine=kinds[each.machine.name]) for each in library.services],
-        target=Machine("", states, start, final, steps))
+        target=Machine("", states, start, final, steps),
+    )
 
 
 # Pairs, and what holds of them.
@@ -337,20 +368,26 @@ class System:
         self.library = library
         self.services = list(services)
         self.actions = range(len(library.world.actions))
-        self.sizes = [len(library.target.states), len(library.world.states), *(len(each.machine.states) for each in services)]
+        self.sizes = [
+            len(library.target.states),
+            len(library.world.states),
+            *(len(each.machine.states) for each in services),
+        ]
         self.count = math.prod(self.sizes)
         if self.count * len(self.actions) > library.limit:
             raise OverLimit
-        self.pairs: List[Pair] = list(itertools.product(*map(range, self.sizes)))
+        self.pairs: list[Pair] = list(itertools.product(*map(range, self.sizes)))
         self._target = steps_from(library.target)
         self._seats = [steps_from(each.machine) for each in services]
-        self._moves: Dict[Tuple[int, int], List[int]] = {}
+        self._moves: dict[tuple[int, int], list[int]] = {}
         for e, a, to in sorted(library.world.moves):
             self._moves.setdefault((e, a), []).append(to)
         self._allowed = {
             (t, e): [a for a in self.actions if (t, e, a) in self._target and (e, a) in self._moves]
-            for t in range(self.sizes[0]) for e in range(self.sizes[1])}
-        self._turns: Dict[Pair, Dict[int, List[List[Pair]]]] = {}
+            for t in range(self.sizes[0])
+            for e in range(self.sizes[1])
+        }
+        self._turns: dict[Pair, dict[int, list[list[Pair]]]] = {}
         self.related = self._greatest()
 
     def number(self, pair: Pair) -> int:
@@ -359,36 +396,43 @@ class System:
             result = result * size + state
         return result
 
-    def allowed(self, pair: Pair) -> List[int]:
+    def allowed(self, pair: Pair) -> list[int]:
         """The actions that the target allows at a pair."""
         return self._allowed[pair[:2]]
 
-    def turns(self, pair: Pair) -> Dict[int, List[List[Pair]]]:
+    def turns(self, pair: Pair) -> dict[int, list[list[Pair]]]:
         """The outcomes of each request that is allowed at a pair, for each service that takes it."""
         if pair not in self._turns:
-            self._turns[pair] = {a: [self._outcomes(pair, a, seat) for seat in range(len(self.services))] for a in self.allowed(pair)}
+            self._turns[pair] = {
+                a: [self._outcomes(pair, a, seat) for seat in range(len(self.services))] for a in self.allowed(pair)
+            }
         return self._turns[pair]
 
-    def _outcomes(self, pair: Pair, action: int, seat: int) -> List[Pair]:
+    def _outcomes(self, pair: Pair, action: int, seat: int) -> list[Pair]:
         """Where a request may lead when a service takes it, by the environment's state and then by its own."""
         t, e, *states = pair
         turns = [] if self.services[seat].frozen else self._seats[seat].get((states[seat], e, action), [])
-        return [(t2, e2, *states[:seat], b2, *states[seat + 1:])
-                for e2 in self._moves[e, action] for b2 in turns for t2 in self._target[t, e, action]]
+        return [
+            (t2, e2, *states[:seat], b2, *states[seat + 1 :])
+            for e2 in self._moves[e, action]
+            for b2 in turns
+            for t2 in self._target[t, e, action]
+        ]
 
-    def outcomes(self, pair: Pair, action: int, seat: int) -> List[Pair]:
+    def outcomes(self, pair: Pair, action: int, seat: int) -> list[Pair]:
         return self.turns(pair)[action][seat]
 
     def may_rest(self, pair: Pair) -> bool:
         """Whether the target is in no final state, or each service that rests is in one."""
         return pair[0] not in self.library.target.final or all(
-            not each.rests or b in each.machine.final for each, b in zip(self.services, pair[2:]))
+            not each.rests or b in each.machine.final for each, b in zip(self.services, pair[2:])
+        )
 
-    def servers(self, pair: Pair, action: int, good: Callable[[Pair], bool]) -> List[int]:
+    def servers(self, pair: Pair, action: int, good: Callable[[Pair], bool]) -> list[int]:
         """The services that can take a request and whose outcomes are all good."""
         return [seat for seat, to in enumerate(self.turns(pair)[action]) if to and all(map(good, to))]
 
-    def fails(self, pair: Pair, good: Callable[[Pair], bool]) -> Iterator[Optional[int]]:
+    def fails(self, pair: Pair, good: Callable[[Pair], bool]) -> Iterator[int | None]:
         """Why a pair can't be related where only those pairs are good: None for its rest, or an action."""
         if not self.may_rest(pair):
             yield None
@@ -396,7 +440,7 @@ class System:
             if not self.servers(pair, action, good):
                 yield action
 
-    def _greatest(self) -> Set[Pair]:
+    def _greatest(self) -> set[Pair]:
         left = set(self.pairs)
         while True:
             lost = {pair for pair in left if next((True for _ in self.fails(pair, left.__contains__)), False)}
@@ -404,27 +448,31 @@ class System:
                 return left
             left -= lost
 
-    def offers(self, pair: Pair, action: int) -> List[int]:
+    def offers(self, pair: Pair, action: int) -> list[int]:
         return self.servers(pair, action, self.related.__contains__) if action in self.allowed(pair) else []
 
     def choices(self) -> int:
         return sum(len(self.offers(pair, action)) for pair in self.pairs for action in self.actions)
 
-    def depths(self) -> List[Set[Pair]]:
+    def depths(self) -> list[set[Pair]]:
         """The pairs that are lost within so many requests, and not within fewer."""
         levels = [{pair for pair in self.pairs if not self.may_rest(pair)}]
         while True:
             lost = set().union(*levels)
-            level = {pair for pair in self.pairs if pair not in lost
-                     and any(not self.servers(pair, a, lambda to: to not in lost) for a in self.allowed(pair))}
+            level = {
+                pair
+                for pair in self.pairs
+                if pair not in lost
+                and any(not self.servers(pair, a, lambda to: to not in lost) for a in self.allowed(pair))
+            }
             if not level:
                 return levels
             levels.append(level)
 
 
-def steps_from(machine: Machine) -> Dict[Tuple[int, int, int], List[int]]:
+def steps_from(machine: Machine) -> dict[tuple[int, int, int], list[int]]:
     """Where a machine may go, by its state, the environment's and the action."""
-    found: Dict[Tuple[int, int, int], List[int]] = {}
+    found: dict[tuple[int, int, int], list[int]] = {}
     for b, e, a, c in sorted(machine.steps):
         found.setdefault((b, e, a), []).append(c)
     return found
@@ -438,11 +486,17 @@ def report(system: System, pair: Pair) -> str:
     """The text of `report`, and of `synth`."""
     library = system.library
     state = "final" if pair[0] in library.target.final else "running"
-    lines = [f"pairs {system.count}\n", f"related {len(system.related)}\n", f"environment {library.world.states[pair[1]]}\n",
-             f"target {library.target.states[pair[0]]} {state}\n"]
+    lines = [
+        f"pairs {system.count}\n",
+        f"related {len(system.related)}\n",
+        f"environment {library.world.states[pair[1]]}\n",
+        f"target {library.target.states[pair[0]]} {state}\n",
+    ]
     for each, b in zip(system.services, pair[2:]):
-        lines.append(f"service {each.name} {each.machine.name} {each.machine.states[b]}"
-                     f" {'frozen' if each.frozen else 'ready'}{'' if each.rests else ' loose'}\n")
+        lines.append(
+            f"service {each.name} {each.machine.name} {each.machine.states[b]}"
+            f" {'frozen' if each.frozen else 'ready'}{'' if each.rests else ' loose'}\n"
+        )
     lines.append(answer(pair in system.related))
     if pair in system.related:
         for a in system.allowed(pair):
@@ -467,8 +521,11 @@ def resilience(library: Library, start: Pair) -> str:
     services = library.services
 
     def outlook(frozen: Sequence[int], dead: Sequence[int]) -> str:
-        left = [replace(each, frozen=True) if seat in frozen else each
-                for seat, each in enumerate(services) if seat not in dead]
+        left = [
+            replace(each, frozen=True) if seat in frozen else each
+            for seat, each in enumerate(services)
+            if seat not in dead
+        ]
         system = System(library, left)
         pair = (*start[:2], *(b for seat, b in enumerate(start[2:]) if seat not in dead))
         word = "composition" if pair in system.related else "none"
@@ -481,13 +538,13 @@ def resilience(library: Library, start: Pair) -> str:
     return "".join([*lines, "end\n"])
 
 
-def read_costs(shelf: Shelf, file: str, library: Library) -> Dict[Tuple[str, int], int]:
+def read_costs(shelf: Shelf, file: str, library: Library) -> dict[tuple[str, int], int]:
     """The costs of a file, by behaviour and action."""
     place = Reader(shelf, file, "costs")
     items = place.load()
     place.check(isinstance(items, list), "form", "whole")
     place.check(len(items) <= MOST_COSTS, "count", "whole")
-    costs: Dict[Tuple[str, int], int] = {}
+    costs: dict[tuple[str, int], int] = {}
     for index, item in enumerate(items):
         place.check(isinstance(item, list) and len(item) == 3, "form", "steps", index)
         place.known(item[0], [each.name for each in library.catalogue], "steps", index)
@@ -499,23 +556,32 @@ def read_costs(shelf: Shelf, file: str, library: Library) -> Dict[Tuple[str, int
     return costs
 
 
-def advise(system: System, start: Pair, costs: Mapping[Tuple[str, int], int], most: int) -> Tuple[int, str]:
+def advise(system: System, start: Pair, costs: Mapping[tuple[str, int], int], most: int) -> tuple[int, str]:
     if start not in system.related:
         return NO, "answer none\n"
     if len(system.related) * most > MOST_VALUES:
         return LIMIT, f"limit {MOST_VALUES}\n"
     values = dict.fromkeys(system.related, 0)
 
-    def best(pair: Pair, a: int) -> Tuple[int, int]:
+    def best(pair: Pair, a: int) -> tuple[int, int]:
         """The least cost of a request, and the first service that has it."""
-        return min((costs.get((system.services[seat].machine.name, a), 0)
-                    + max(values[to] for to in system.outcomes(pair, a, seat)), seat) for seat in system.offers(pair, a))
+        return min(
+            (
+                costs.get((system.services[seat].machine.name, a), 0)
+                + max(values[to] for to in system.outcomes(pair, a, seat)),
+                seat,
+            )
+            for seat in system.offers(pair, a)
+        )
 
-    lines: List[str] = []
-    first: List[str] = []
+    lines: list[str] = []
+    first: list[str] = []
     for count in range(1, most + 1):
-        first = [f"for {system.library.world.actions[a]}:{names_of(system, [seat])} {cost}\n"
-                 for a in system.allowed(start) for cost, seat in [best(start, a)]]
+        first = [
+            f"for {system.library.world.actions[a]}:{names_of(system, [seat])} {cost}\n"
+            for a in system.allowed(start)
+            for cost, seat in [best(start, a)]
+        ]
         values = {pair: max((best(pair, a)[0] for a in system.allowed(pair)), default=0) for pair in values}
         lines += [f"value {count} {system.number(pair)} {values[pair]}\n" for pair in sorted(values)]
     return DONE, "".join([f"worst {values[start]}\n", *first, *lines, "end\n"])
@@ -524,12 +590,12 @@ def advise(system: System, start: Pair, costs: Mapping[Tuple[str, int], int], mo
 # Certificates.
 
 
-def check(system: System, start: Pair, text: bytes) -> Tuple[int, str]:
+def check(system: System, start: Pair, text: bytes) -> tuple[int, str]:
     """The verdict on a certificate."""
     lines = text.split(b"\n")
     if lines[-1] == b"":
         lines.pop()
-    listed: Set[Pair] = set()
+    listed: set[Pair] = set()
     wanted = [b"roman-order 1", b"pairs %d" % system.count]
     for place, line in enumerate(lines, 1):
         if place <= 2:
@@ -544,7 +610,12 @@ def check(system: System, start: Pair, text: bytes) -> Tuple[int, str]:
                 return NO, f"rejected {place + 1} form\n"
             return DONE, f"greatest {system.count - len(listed)}\n{answer(start not in listed)}"
         entry = re.fullmatch(rb"(0|[1-9][0-9]*) (f|0|[1-9][0-9]*)", line)
-        if not entry or int(entry[1][:20]) >= system.count or entry[2] != b"f" and int(entry[2][:20]) >= len(system.actions):
+        if (
+            not entry
+            or int(entry[1][:20]) >= system.count
+            or entry[2] != b"f"
+            and int(entry[2][:20]) >= len(system.actions)
+        ):
             return NO, f"rejected {place} form\n"
         pair, reason = system.pairs[int(entry[1])], None if entry[2] == b"f" else int(entry[2])
         if pair in listed:
@@ -555,12 +626,14 @@ def check(system: System, start: Pair, text: bytes) -> Tuple[int, str]:
     return NO, f"rejected {len(lines) + 1} form\n"
 
 
-def certificate(system: System, draw: Callable[[List[Any]], Any]) -> bytes:
+def certificate(system: System, draw: Callable[[list[Any]], Any]) -> bytes:
     """A certificate, its entries drawn from those that are justified by then."""
-    listed: Set[Pair] = set()
+    listed: set[Pair] = set()
     lines = ["roman-order 1\n", f"pairs {system.count}\n"]
     while len(listed) < system.count - len(system.related):
-        ready = [(pair, list(system.fails(pair, lambda to: to not in listed))) for pair in system.pairs if pair not in listed]
+        ready = [
+            (pair, list(system.fails(pair, lambda to: to not in listed))) for pair in system.pairs if pair not in listed
+        ]
         for pair, reasons in [each for each in ready if each[1]]:
             if len(lines) == 2 or draw([True, True, False]):
                 reason = draw(reasons)
@@ -571,8 +644,21 @@ def certificate(system: System, draw: Callable[[List[Any]], Any]) -> bytes:
 
 # Sessions.
 
-SHAPES = {"do": 1, "use": 1, "saw": 2, "abort": 0, "freeze": 1, "thaw": 1, "die": 1, "join": 3, "jump": 2,
-          "jumpenv": 1, "report": 0, "explain": 0, "quit": 0}
+SHAPES = {
+    "do": 1,
+    "use": 1,
+    "saw": 2,
+    "abort": 0,
+    "freeze": 1,
+    "thaw": 1,
+    "die": 1,
+    "join": 3,
+    "jump": 2,
+    "jumpenv": 1,
+    "report": 0,
+    "explain": 0,
+    "quit": 0,
+}
 CHANGES = ("freeze", "thaw", "die", "join", "jump", "jumpenv")
 
 
@@ -582,7 +668,7 @@ class Tally:
     that doesn't depend on the list that the program keeps."""
 
     total: int
-    kept: Optional[int]
+    kept: int | None
 
 
 @dataclass(frozen=True)
@@ -600,8 +686,8 @@ class Session:
         self.library = library
         self.system = System(library, library.services)
         self.pair: Pair = start_of(library)
-        self.action: Optional[int] = None
-        self.delegate: Optional[int] = None
+        self.action: int | None = None
+        self.delegate: int | None = None
         self.is_over = False
 
     def tell(self, line: bytes) -> Any:
@@ -676,12 +762,14 @@ class Session:
         self.is_over = True
         return "bye\n"
 
-    def _change(self, event: str, rest: List[str], loose: bool, names: List[str]) -> Any:
+    def _change(self, event: str, rest: list[str], loose: bool, names: list[str]) -> Any:
         services, seat = self.system.services, names.index(rest[0]) if rest[0] in names else 0
         kinds = {each.name: each for each in self.library.catalogue}
-        wrong = {"jump": lambda: rest[1] not in services[seat].machine.states,
-                 "jumpenv": lambda: rest[0] not in self.library.world.states,
-                 "join": lambda: not NAME.fullmatch(rest[0]) or rest[1] not in kinds or rest[2] not in kinds[rest[1]].states}
+        wrong = {
+            "jump": lambda: rest[1] not in services[seat].machine.states,
+            "jumpenv": lambda: rest[0] not in self.library.world.states,
+            "join": lambda: not NAME.fullmatch(rest[0]) or rest[1] not in kinds or rest[2] not in kinds[rest[1]].states,
+        }
         if wrong.get(event, bool)():
             return "error name\n"
         if self.action is not None:
@@ -697,14 +785,18 @@ class Session:
         lost = [pair for pair in self.system.pairs if pair not in self.system.related]
         if event == "die":
             dead = services[seat]
-            kept = {pair[:2 + seat] + pair[3 + seat:] for pair in lost if not dead.rests or pair[2 + seat] in dead.machine.final}
-            self.pair = self.pair[:2 + seat] + self.pair[3 + seat:]
-            return self._tally(services[:seat] + services[seat + 1:], len(kept))
+            kept = {
+                pair[: 2 + seat] + pair[3 + seat :]
+                for pair in lost
+                if not dead.rests or pair[2 + seat] in dead.machine.final
+            }
+            self.pair = self.pair[: 2 + seat] + self.pair[3 + seat :]
+            return self._tally(services[:seat] + services[seat + 1 :], len(kept))
         freezes = event == "freeze"
         if services[seat].frozen == freezes:
             return "error frozen\n" if freezes else "error ready\n"
         changed = replace(services[seat], frozen=freezes)
-        return self._tally([*services[:seat], changed, *services[seat + 1:]], len(lost) if freezes else None)
+        return self._tally([*services[:seat], changed, *services[seat + 1 :]], len(lost) if freezes else None)
 
     def _join(self, name: str, machine: Machine, state: str, rests: bool) -> Any:
         services = self.system.services
@@ -720,7 +812,7 @@ class Session:
         self.pair = (*self.pair, number)
         return reply
 
-    def _tally(self, services: Sequence[Service], kept: Optional[int]) -> Tally:
+    def _tally(self, services: Sequence[Service], kept: int | None) -> Tally:
         self.system = System(self.library, services)
         return Tally(self.system.count - len(self.system.related), kept)
 
@@ -730,14 +822,14 @@ def start_of(library: Library) -> Pair:
 
 
 def put(pair: Pair, place: int, state: int) -> Pair:
-    return (*pair[:place], state, *pair[place + 1:])
+    return (*pair[:place], state, *pair[place + 1 :])
 
 
-def explanation_fault(asked: Explained, lines: List[str]) -> Optional[str]:
+def explanation_fault(asked: Explained, lines: list[str]) -> str | None:
     """What is wrong with an explanation: each entry follows from those above it, each but the last one is
     used below, and the last one is the present pair's."""
     system, world = asked.system, asked.system.library.world
-    listed: List[Pair] = []
+    listed: list[Pair] = []
     used = {asked.pair}
     place = 0
     while place < len(lines):
@@ -769,7 +861,9 @@ def explanation_fault(asked: Explained, lines: List[str]) -> Optional[str]:
                 due.append(f"{word}cannot")
             else:
                 used.add(to)
-                due.append(f"{word}may answer {system.services[seat].machine.states[to[2 + seat]]} {world.states[to[1]]}")
+                due.append(
+                    f"{word}may answer {system.services[seat].machine.states[to[2 + seat]]} {world.states[to[1]]}"
+                )
         if answers != due:
             return f"{answers} in place of {due}"
         listed.append(pair)
@@ -778,7 +872,7 @@ def explanation_fault(asked: Explained, lines: List[str]) -> Optional[str]:
     return None if set(listed) == used and len(listed) == len(used) else "an entry stands there twice, or for nothing"
 
 
-def session_fault(session: Session, lines: Sequence[bytes], told: str) -> Optional[str]:
+def session_fault(session: Session, lines: Sequence[bytes], told: str) -> str | None:
     """What is wrong with the replies to the lines of a session; None where nothing is."""
     for line in lines:
         reply = session.tell(line)
@@ -806,7 +900,7 @@ def session_fault(session: Session, lines: Sequence[bytes], told: str) -> Option
 # Runs.
 
 
-def lines_of(session: bytes) -> List[bytes]:
+def lines_of(session: bytes) -> list[bytes]:
     lines = session.split(b"\n")
     return lines[:-1] if lines[-1] == b"" else lines
 
@@ -818,10 +912,17 @@ def shape_of(words: Sequence[str]) -> bool:
         return count == 2 and words[1] in map(str, range(1, 11))
     if command == "advise":
         return count == 4 and words[3] in map(str, range(1, 65))
-    return count in {"synth": (2,), "run": (2, 3), "certify": (2,), "check": (3,), "resilience": (2,), "shortest": (2,)}.get(command, ())
+    return count in {
+        "synth": (2,),
+        "run": (2, 3),
+        "certify": (2,),
+        "check": (3,),
+        "resilience": (2,),
+        "shortest": (2,),
+    }.get(command, ())
 
 
-def run_fault(words: Sequence[str], shelf: Shelf, session: bytes, status: int, told: bytes) -> Optional[str]:
+def run_fault(words: Sequence[str], shelf: Shelf, session: bytes, status: int, told: bytes) -> str | None:
     """What is wrong with how a run ended, and with what it wrote; None where nothing is."""
     text = told.decode("latin-1")
     try:
@@ -837,7 +938,7 @@ def run_fault(words: Sequence[str], shelf: Shelf, session: bytes, status: int, t
     return fault or (None if status == ended else f"status {status} in place of {ended}")
 
 
-def run(words: Sequence[str], shelf: Shelf, session: bytes, text: str) -> Tuple[int, Any]:
+def run(words: Sequence[str], shelf: Shelf, session: bytes, text: str) -> tuple[int, Any]:
     """The status of a run, and its text, or a function that says what is wrong with the text that it has."""
     if not shape_of(words):
         return USAGE, USAGE_LINE
@@ -879,15 +980,26 @@ def made(count: int) -> str:
     actions = ["start", "stop", "mend", "hold", "go"]
     floor = World(["floor"], 0, actions, frozenset((0, a, 0) for a in range(5)))
 
-    def machine(name: str, states: str, final: FrozenSet[int], steps: str) -> Machine:
+    def machine(name: str, states: str, final: frozenset[int], steps: str) -> Machine:
         names = states.split()
         split = [each.split() for each in steps.split(", ")]
-        return Machine(name, names, 0, final, frozenset((names.index(b), 0, actions.index(a), names.index(c)) for b, a, c in split))
+        return Machine(
+            name, names, 0, final, frozenset((names.index(b), 0, actions.index(a), names.index(c)) for b, a, c in split)
+        )
 
-    worker = machine("worker", "idle busy worn", frozenset((0, 2)), "idle start busy, busy stop idle, busy stop worn,"
-                     " busy hold busy, busy go busy, worn mend idle, idle mend idle")
-    target = machine("", "rest work tidy pause", frozenset((0,)), "rest start work, work stop tidy, tidy mend rest,"
-                     " work hold pause, pause go work")
+    worker = machine(
+        "worker",
+        "idle busy worn",
+        frozenset((0, 2)),
+        "idle start busy, busy stop idle, busy stop worn,"
+        " busy hold busy, busy go busy, worn mend idle, idle mend idle",
+    )
+    target = machine(
+        "",
+        "rest work tidy pause",
+        frozenset((0,)),
+        "rest start work, work stop tidy, tidy mend rest," " work hold pause, pause go work",
+    )
     workers = [Service(f"w{number}", worker, 0, False, True) for number in range(1, count + 1)]
     session = Session(Library(4_194_304, floor, [worker], workers, target))
 
@@ -897,8 +1009,19 @@ def made(count: int) -> str:
         system = session.system
         return f"{word} pairs {system.count} related {len(system.related)} {answer(session.pair in system.related)[7:]}"
 
-    return "".join([
-        f"made {count}\n", summary("start"), summary("freeze", "freeze w1"), summary("thaw", "thaw w1"),
-        summary("die", "die w1"), summary("join", "join spare worker idle"),
-        summary("round", *"do start, use spare, saw busy floor, do stop, use spare, saw worn floor, do mend, use spare,"
-                " saw idle floor".split(", ")), "end\n"])
+    return "".join(
+        [
+            f"made {count}\n",
+            summary("start"),
+            summary("freeze", "freeze w1"),
+            summary("thaw", "thaw w1"),
+            summary("die", "die w1"),
+            summary("join", "join spare worker idle"),
+            summary(
+                "round",
+                *"do start, use spare, saw busy floor, do stop, use spare, saw worn floor, do mend, use spare,"
+                " saw idle floor".split(", "),
+            ),
+            "end\n",
+        ]
+    )

@@ -15,8 +15,12 @@ from .test_speed import measured
 def main() -> int:
     with tempfile.TemporaryDirectory() as folder:
         table = measured(Path(folder))
-    rows = [f'  "{name}": {{\n' + ",\n".join(f'    "{command}": {json.dumps(row)}' for command, row in commands.items()) + "\n  }"
-            for name, commands in table.items()]
+    rows = [
+        f'  "{name}": {{\n'
+        + ",\n".join(f'    "{command}": {json.dumps(row)}' for command, row in commands.items())
+        + "\n  }"
+        for name, commands in table.items()
+    ]
     print("{\n" + ",\n".join(rows) + "\n}")
     return 0
 

@@ -26,8 +26,10 @@ COMMANDS = {
     "resilience": (["resilience", "lamp.json"], False),
     "several targets": (["run", "several.json", "several.session"], False),
 }
-SEVERAL = (b"do on-a\nuse l1\nsaw on e\njoin l3 lamp off\njoin l4 lamp on loose\nexplain\ndo on-b\nuse l3\nsaw on e\n"
-           b"jump l4 off\ndie l2\nreport\n")
+SEVERAL = (
+    b"do on-a\nuse l1\nsaw on e\njoin l3 lamp off\njoin l4 lamp on loose\nexplain\ndo on-b\nuse l3\nsaw on e\n"
+    b"jump l4 off\ndie l2\nreport\n"
+)
 """A session with a document of version 3, whose parts stand in files of their own."""
 
 
@@ -43,7 +45,11 @@ class Faults(unittest.TestCase):
         (cls.folder / "lamp.session").write_bytes(SESSION)
         (cls.folder / "lamp.costs").write_bytes(b'[["lamp","on",3],["lamp","off",1]]')
         two = json.loads((program.SAMPLES / "two.json").read_text(encoding="utf-8"))
-        for name, holder, key in (("world", two, "environment"), ("kind", two["behaviours"], 0), ("second", two["targets"], 1)):
+        for name, holder, key in (
+            ("world", two, "environment"),
+            ("kind", two["behaviours"], 0),
+            ("second", two["targets"], 1),
+        ):
             (cls.folder / f"{name}.json").write_text(json.dumps(holder[key]), encoding="utf-8")
             holder[key] = {"file": f"{name}.json"}
         (cls.folder / "several.json").write_text(json.dumps(two), encoding="utf-8")
@@ -56,9 +62,17 @@ class Faults(unittest.TestCase):
         at = 1
         while True:
             told.unlink(missing_ok=True)
-            ended = run(words, self.folder, session, {
-                "LD_PRELOAD": os.fspath(self.library), "FAIL_KIND": kind,
-                "FAIL_AT": str(at), "FAIL_TOLD": os.fspath(told)})
+            ended = run(
+                words,
+                self.folder,
+                session,
+                {
+                    "LD_PRELOAD": os.fspath(self.library),
+                    "FAIL_KIND": kind,
+                    "FAIL_AT": str(at),
+                    "FAIL_TOLD": os.fspath(told),
+                },
+            )
             if not told.exists():
                 return
             yield at, ended
@@ -79,12 +93,14 @@ class Faults(unittest.TestCase):
     def test_memory(self):
         def is_right(_name, plain, ended):
             return ended == plain or ended == program.Ended(program.MEMORY, b"")
+
         for name, count in self.check_each("memory", is_right):
             self.assertGreater(count, 0 if name == "make" else 10, name)
 
     def test_reads(self):
         def is_right(name, _plain, ended):
             return ended.status in (program.SHELF_FAULT, program.READ_FAULT if name == "run" else program.SHELF_FAULT)
+
         counts = dict(self.check_each("read", is_right))
         self.assertEqual(counts.pop("make"), 0)
         for name, count in counts.items():
@@ -93,6 +109,7 @@ class Faults(unittest.TestCase):
     def test_writes(self):
         def is_right(_name, _plain, ended):
             return ended.status == program.WRITE_FAULT
+
         for name, count in self.check_each("write", is_right):
             self.assertGreater(count, 0, name)
 
@@ -104,8 +121,12 @@ class Faults(unittest.TestCase):
             self.assertTrue(plain.text)
             for kind, at in kinds:
                 with self.subTest(command=name, kind=kind, at=at):
-                    yield plain, run(words, self.folder, session, {
-                        "LD_PRELOAD": os.fspath(self.library), "FAIL_KIND": kind, "FAIL_AT": at})
+                    yield plain, run(
+                        words,
+                        self.folder,
+                        session,
+                        {"LD_PRELOAD": os.fspath(self.library), "FAIL_KIND": kind, "FAIL_AT": at},
+                    )
 
     def test_calls_that_move_few_bytes(self):
         """They are no faults: each run ends as it does without."""

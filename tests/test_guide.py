@@ -8,8 +8,9 @@ import subprocess
 import sys
 import tempfile
 import unittest
+from collections.abc import Callable
 from pathlib import Path
-from typing import Any, Callable, Dict, List, Tuple
+from typing import Any
 
 from tools import test_talk
 
@@ -18,20 +19,28 @@ from . import PROGRAM, TOP, reference
 GUIDE = (TOP / "docs" / "GUIDE.md").read_text(encoding="utf-8")
 README = (TOP / "README.md").read_text(encoding="utf-8")
 
-EDITS: Dict[str, Tuple[str, Dict[str, str]]] = {
-    "mine.json": ("home.json", {
-        '["dusk", "brighten", "dusk"]': '["dusk", "brighten", "night"]',
-        '["off", true, "brighten", "on"]': '["off", true, "brigten", "on"]',
-        '"ceiling", "behaviour": "lamp"': '"ceiling", "behaviour": "lamp", "rest": false'}),
-    "house.json": ("short/house.json", {
-        '"set": {"who": "away"}': '"set": {"who": "awya"}',
-        '"away", "clean", "docked"': '"away and nigth", "clean", "docked"'}),
+EDITS: dict[str, tuple[str, dict[str, str]]] = {
+    "mine.json": (
+        "home.json",
+        {
+            '["dusk", "brighten", "dusk"]': '["dusk", "brighten", "night"]',
+            '["off", true, "brighten", "on"]': '["off", true, "brigten", "on"]',
+            '"ceiling", "behaviour": "lamp"': '"ceiling", "behaviour": "lamp", "rest": false',
+        },
+    ),
+    "house.json": (
+        "short/house.json",
+        {
+            '"set": {"who": "away"}': '"set": {"who": "awya"}',
+            '"away", "clean", "docked"': '"away and nigth", "clean", "docked"',
+        },
+    ),
     "tea.json": ("short/house.json", {'"pour", "dim"]': '{"maybe": "pour"}, "dim"]'}),
 }
 """The documents in which the guide shows mistakes: of each the sample that it is a copy of, and its edits."""
 
 
-def blocks(language: str, page: str = GUIDE) -> List[str]:
+def blocks(language: str, page: str = GUIDE) -> list[str]:
     found = re.findall(r"^```(\w*)\n(.*?)^```$", page, re.M | re.S)
     return [text for name, text in found if name == language]
 
@@ -43,7 +52,7 @@ def section(title: str) -> str:
     return re.split(rf"^#{{1,{len(level)}}} ", body, maxsplit=1, flags=re.M)[0]
 
 
-def is_part(some: List[Any], whole: List[Any]) -> bool:
+def is_part(some: list[Any], whole: list[Any]) -> bool:
     """Whether these items stand in the other list, in that order."""
     rest = iter(whole)
     return all(each in rest for each in some)
@@ -106,13 +115,13 @@ class Guide(unittest.TestCase):
             self.assertEqual((done.returncode, done.stdout, done.stderr), (0, "", ""))
             self.assertIn("<svg", (folder / "why.svg").read_text(encoding="utf-8"))
 
-    def told(self, sample: str) -> List[Tuple[str, str]]:
+    def told(self, sample: str) -> list[tuple[str, str]]:
         """The lines of a sample's session that get a reply, each with what the program answers to it."""
         session = (TOP / "samples" / f"{sample}.session").read_text(encoding="utf-8").splitlines()
         lines = [line for line in session if line and not line.startswith("#")]
         # Each reply is that by which a longer session goes on, so no form of replies is taken for known.
         text = self.says("run", f"samples/{sample}.json", input="\n".join(lines))
-        replies: List[str] = []
+        replies: list[str] = []
         for reply in text.splitlines():
             if replies and replies[-1].startswith(("pairs", "lost")) and not replies[-1].endswith("\nend"):
                 replies[-1] += f"\n{reply}"
@@ -130,10 +139,18 @@ class Guide(unittest.TestCase):
     def test_what_is_said_of_a_sample_s_replies(self) -> None:
         """`LINE` is answered `REPLY`, in the text of the samples' sections."""
         count = 0
-        for title, sample in (("### In the home", "home"), ("### In the web shop", "web"), ("### In the depot", "depot"),
-                              ("### In the greenhouse", "greenhouse"), ("### In the garden", "garden")):
+        for title, sample in (
+            ("### In the home", "home"),
+            ("### In the web shop", "web"),
+            ("### In the depot", "depot"),
+            ("### In the greenhouse", "greenhouse"),
+            ("### In the garden", "garden"),
+        ):
             told = self.told(sample)
-            for line, replies in re.findall(r"`([^`]+)` is answered ((?:`[^`]+`(?:, (?:but )?| or |[^`.]{0,40} or |[^`.]{0,40}, but )?)+)", section(title)):
+            for line, replies in re.findall(
+                r"`([^`]+)` is answered ((?:`[^`]+`(?:, (?:but )?| or |[^`.]{0,40} or |[^`.]{0,40}, but )?)+)",
+                section(title),
+            ):
                 for reply in re.findall(r"`([^`]+)`", replies):
                     count += 1
                     with self.subTest(title, line=line, reply=reply):
@@ -142,17 +159,21 @@ class Guide(unittest.TestCase):
 
     def test_each_block_is_tried(self) -> None:
         """Each block of the guide is one of those below, and is so."""
-        tried: Dict[str, Callable[[str], None]] = {
+        tried: dict[str, Callable[[str], None]] = {
             r"\$ \./roman run samples/(\w+)\.json < samples/\1\.session\n": self.check_beginning,
             r"\w+ [\w -]+ {3,}\w": self.check_replies,
             r"refused ": self.check_refusal,
             r"made ": lambda block: self.assertEqual(self.says("make", "2"), block),
             r"pairs \d+\nrelated \d+\nenvironment": self.check_report,
-            r"pairs \d+\nrelated \d+\ndepth": lambda block: self.assertEqual(self.says("shortest", "samples/flaky.json"), block),
+            r"pairs \d+\nrelated \d+\ndepth": lambda block: self.assertEqual(
+                self.says("shortest", "samples/flaky.json"), block
+            ),
             r"lost ": self.check_explanation,
             r"roman-order": lambda block: self.assertEqual(self.says("certify", "samples/flaky.json"), block),
             r"greatest ": self.check_verdict,
-            r"\[\n  \[\"belt\"": lambda block: self.assertEqual((TOP / "samples/depot.costs").read_text(encoding="utf-8"), block),
+            r"\[\n  \[\"belt\"": lambda block: self.assertEqual(
+                (TOP / "samples/depot.costs").read_text(encoding="utf-8"), block
+            ),
             r"worst ": self.check_advice,
             r"services ": lambda block: self.assertEqual(self.says("resilience", "samples/workshop.json"), block),
             r"\./roman run .* \| diff": self.check_words,
@@ -235,7 +256,7 @@ class Guide(unittest.TestCase):
         path = {**os.environ, "ROMAN": PROGRAM, "PATH": f"{TOP / 'tools'}:{os.environ['PATH']}"}
         return run("bash", "-c", words, cwd=folder, env=path)
 
-    def findings(self) -> List[Tuple[int, int, str, str]]:
+    def findings(self) -> list[tuple[int, int, str, str]]:
         """Line, column, kind and message of what the linter finds in the faulty home."""
         with tempfile.TemporaryDirectory() as folder:
             found = json.loads(self.lints(folder, "roman-lint --json mine.json").stdout)["findings"]
@@ -292,17 +313,31 @@ class Guide(unittest.TestCase):
             file = f"{folder}/mine.json"
             lines = self.lints(folder, task["command"].replace("${file}", file)).stdout.splitlines()
         places = [matcher["pattern"][name] for name in ("file", "line", "column", "severity", "message")]
-        found = [match.group(*places) for match in (re.match(matcher["pattern"]["regexp"], line) for line in lines) if match]
-        self.assertEqual(found, [(file, str(line), str(column), kind, said) for line, column, kind, said in self.findings()])
+        found = [
+            match.group(*places) for match in (re.match(matcher["pattern"]["regexp"], line) for line in lines) if match
+        ]
+        self.assertEqual(
+            found, [(file, str(line), str(column), kind, said) for line, column, kind, said in self.findings()]
+        )
 
     def check_json(self, block: str, *samples: str) -> None:
         """A document, or a piece of one: all of what it says stands in one of the samples."""
         folder = TOP / "samples"
-        files = [folder / f"{name}.json" for name in samples] or sorted([*folder.glob("*.json"), *folder.glob("short/*.json")])
+        files = [folder / f"{name}.json" for name in samples] or sorted(
+            [*folder.glob("*.json"), *folder.glob("short/*.json")]
+        )
         texts = [json.dumps(json.loads(file.read_text(encoding="utf-8"))) for file in files]
-        piece = block.strip() if block.startswith("{") else f"[{block.strip()}]" if block.startswith("[") else f"{{{block.strip()}}}"
+        piece = (
+            block.strip()
+            if block.startswith("{")
+            else f"[{block.strip()}]"
+            if block.startswith("[")
+            else f"{{{block.strip()}}}"
+        )
         lines = block.strip().splitlines()
-        values = [json.loads(line) for line in lines] if block.startswith("[") and len(lines) > 1 else [json.loads(piece)]
+        values = (
+            [json.loads(line) for line in lines] if block.startswith("[") and len(lines) > 1 else [json.loads(piece)]
+        )
         for value in values:
             wanted = json.dumps(value)
             wanted = wanted if block.startswith(("{", "[")) and len(lines) > 1 or samples else wanted[1:-1]
@@ -342,8 +377,18 @@ class Guide(unittest.TestCase):
             "guide": dict(re.findall(r"^\| (\d+) \| (.*) \|$", section("## The commands"), re.M)),
             "manual": dict(re.findall(r"^\.It (\d+)\n((?:(?!\.It|\.El).*\n)+)", manual, re.M)),
         }
-        said = {"0": ["done"], "1": ["no composition", "check", "advise"], "2": ["command", "UTF-8"], "3": ["costs", "refused"],
-                "4": ["limit", "advise"], "5": ["file"], "6": ["read"], "7": ["output"], "8": ["session", "certificate"], "9": ["memory", "nothing was written"]}
+        said = {
+            "0": ["done"],
+            "1": ["no composition", "check", "advise"],
+            "2": ["command", "UTF-8"],
+            "3": ["costs", "refused"],
+            "4": ["limit", "advise"],
+            "5": ["file"],
+            "6": ["read"],
+            "7": ["output"],
+            "8": ["session", "certificate"],
+            "9": ["memory", "nothing was written"],
+        }
         for name, table in pages.items():
             self.assertEqual(sorted(table), sorted(said), name)
             for status, text in table.items():
@@ -351,7 +396,9 @@ class Guide(unittest.TestCase):
                 for words in said[status]:
                     self.assertIn(words.lower(), plain.lower(), (name, status))
         commands = dict(re.findall(r"^\| `(\w+) [^`]*` \| .* \| (\d[^|]*) \|$", README, re.M))
-        self.assertEqual(sorted(name for name, status in commands.items() if "1" in status), ["advise", "check", "synth"])
+        self.assertEqual(
+            sorted(name for name, status in commands.items() if "1" in status), ["advise", "check", "synth"]
+        )
 
     def test_cells(self) -> None:
         for name, product in re.findall(r"^\| `samples/(\w+)\.json` \| ([^|]+) \| [\d,]+ \|", GUIDE, re.M):

@@ -5,7 +5,6 @@ import subprocess
 import unittest
 from collections import Counter
 from html.parser import HTMLParser
-from typing import List, Optional, Tuple
 
 from . import TOP
 
@@ -19,11 +18,11 @@ class Places(HTMLParser):
 
     def __init__(self, page: str) -> None:
         super().__init__()
-        self.places: List[str] = []
-        self.led_to: List[str] = []
+        self.places: list[str] = []
+        self.led_to: list[str] = []
         self.feed(page)
 
-    def handle_starttag(self, tag: str, attrs: List[Tuple[str, Optional[str]]]) -> None:
+    def handle_starttag(self, tag: str, attrs: list[tuple[str, str | None]]) -> None:
         for name, value in attrs:
             if name == "id" and value:
                 self.places.append(value)
@@ -53,9 +52,13 @@ class Headline(unittest.TestCase):
         self.assertEqual([place for place, count in Counter(page.places).items() if count > 1], [])
 
     def test_both_forms_have_the_same_definitions(self) -> None:
-        names = [re.findall(pattern, text) for pattern, text in (
-            (r'<h3><a id="([^"]*)"', self.done("--html").stdout),
-            (r'### <a id="([^"]*)"', PAGE.read_text(encoding="utf-8")))]
+        names = [
+            re.findall(pattern, text)
+            for pattern, text in (
+                (r'<h3><a id="([^"]*)"', self.done("--html").stdout),
+                (r'### <a id="([^"]*)"', PAGE.read_text(encoding="utf-8")),
+            )
+        ]
         self.assertEqual(*names)
 
 

@@ -13,7 +13,9 @@ LONGEST = 150
 
 class Links(unittest.TestCase):
     def test_the_lines_are_those_of_the_words(self) -> None:
-        done = subprocess.run([str(TOP / "tools" / "links"), "--check"], capture_output=True, text=True, check=False, timeout=60)
+        done = subprocess.run(
+            [str(TOP / "tools" / "links"), "--check"], capture_output=True, text=True, check=False, timeout=60
+        )
         self.assertEqual((done.returncode, done.stderr), (0, ""), "tools/links sets the numbers")
 
     def test_the_files_are_there(self) -> None:

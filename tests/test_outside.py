@@ -12,7 +12,7 @@ import tempfile
 import time
 import unittest
 from pathlib import Path
-from typing import Any, Dict, List
+from typing import Any
 
 from . import PROGRAM, TOP
 
@@ -85,9 +85,21 @@ class Ends(unittest.TestCase):
             self.assertEqual(done.stderr, "roman: the related pairs times 64 are more than 1,048,576 values\n")
 
     def test_a_word_that_is_no_utf_8(self) -> None:
-        for words in ([b"\xff"], [b"synth", b"\xff.json"], [b"run", b"samples/lamp.json", b"\xc3"], [b"make", b"1\x80"]):
+        for words in (
+            [b"\xff"],
+            [b"synth", b"\xff.json"],
+            [b"run", b"samples/lamp.json", b"\xc3"],
+            [b"make", b"1\x80"],
+        ):
             with self.subTest(words):
-                done = subprocess.run([os.fsencode(PROGRAM), *words], cwd=TOP, stdin=subprocess.DEVNULL, capture_output=True, timeout=60, check=False)
+                done = subprocess.run(
+                    [os.fsencode(PROGRAM), *words],
+                    cwd=TOP,
+                    stdin=subprocess.DEVNULL,
+                    capture_output=True,
+                    timeout=60,
+                    check=False,
+                )
                 self.assertEqual((done.returncode, done.stdout, done.stderr), (2, b"", b""))
 
     def test_a_file_that_can_not_be_read(self) -> None:
@@ -136,8 +148,15 @@ class Ends(unittest.TestCase):
         reading, writing = os.pipe()
         os.close(reading)
         try:
-            done = run(PROGRAM, "synth", "samples/lamp.json", cwd=TOP, capture_output=False,
-                       stdout=writing, stderr=subprocess.PIPE)
+            done = run(
+                PROGRAM,
+                "synth",
+                "samples/lamp.json",
+                cwd=TOP,
+                capture_output=False,
+                stdout=writing,
+                stderr=subprocess.PIPE,
+            )
         finally:
             os.close(writing)
         self.assertEqual((done.returncode, done.stderr), (7, ""))
@@ -156,9 +175,7 @@ class Ends(unittest.TestCase):
             large = Path(folder) / "large.json"
             lamp = json.loads((TOP / "samples" / "lamp.json").read_text(encoding="utf-8"))
             lamps = [{"name": f"l{number}", "behaviour": "lamp"} for number in range(18)]
-            large.write_text(
-                json.dumps({**lamp, "services": lamps, "limit": 16777216}), encoding="utf-8"
-            )
+            large.write_text(json.dumps({**lamp, "services": lamps, "limit": 16777216}), encoding="utf-8")
             done = run(PROGRAM, "synth", str(large), preexec_fn=little)
         self.says(done, 9, "memory")
         self.assertEqual(done.stdout, "")
@@ -217,7 +234,7 @@ class Roman(Tree):
         """It goes on to the unproved run: here there is no toolchain, so that is all that can be seen."""
         empty = self.top / "empty"
         empty.mkdir()
-        (empty / "rt").write_text("#!/bin/sh\necho ran \"$@\"\n", encoding="utf-8")
+        (empty / "rt").write_text('#!/bin/sh\necho ran "$@"\n', encoding="utf-8")
         (empty / "rt").chmod(0o755)
         path = {**os.environ, "PATH": f"{empty}:{os.environ['PATH']}"}
         (self.top / "session").write_text("do on\n", encoding="utf-8")
@@ -228,14 +245,16 @@ class Roman(Tree):
                 self.assertIn("ran try", done.stdout)
                 self.assertIn(" ".join(words), done.stdout)
 
-    def toolchain(self) -> Dict[str, str]:
+    def toolchain(self) -> dict[str, str]:
         """An environment with an `rt` that runs the built program as `rt try` does the unproved one: in a new
         folder, with no files but those that it is given."""
         tools = self.top / "tools"
         (tools / "rt").write_text(
-            "#!/bin/bash\nset -e\n[ \"$1\" = try ]\nshift\nfolder=$(mktemp -d)\n"
+            '#!/bin/bash\nset -e\n[ "$1" = try ]\nshift\nfolder=$(mktemp -d)\n'
             'while [ "$1" = --data ]; do install -D "${2#*=}" "$folder/${2%%=*}"; shift 2; done\n'
-            f'[ "$1" = -- ]\nshift\ncd "$folder"\n"{PROGRAM}" "$@"\n', encoding="utf-8")
+            f'[ "$1" = -- ]\nshift\ncd "$folder"\n"{PROGRAM}" "$@"\n',
+            encoding="utf-8",
+        )
         (tools / "rt").chmod(0o755)
         return {**os.environ, "PATH": f"{tools}:{os.environ['PATH']}"}
 
@@ -245,7 +264,12 @@ class Roman(Tree):
         replies = (TOP / "samples" / "greenhouse.replies").read_text(encoding="utf-8")
         for folder in ("", f"{self.top}/"):
             with self.subTest(folder):
-                done = self.roman("run", f"{folder}samples/greenhouse.json", f"{folder}samples/greenhouse.session", env=self.toolchain())
+                done = self.roman(
+                    "run",
+                    f"{folder}samples/greenhouse.json",
+                    f"{folder}samples/greenhouse.session",
+                    env=self.toolchain(),
+                )
                 self.assertEqual((done.returncode, done.stdout), (0, replies), done.stderr)
 
     def test_short_documents_before_the_build(self) -> None:
@@ -272,7 +296,9 @@ class Roman(Tree):
         self.build()
         leader, terminal = pty.openpty()
         try:
-            done = self.roman("synth", "samples/flaky.json", capture_output=False, stdout=subprocess.PIPE, stderr=terminal)
+            done = self.roman(
+                "synth", "samples/flaky.json", capture_output=False, stdout=subprocess.PIPE, stderr=terminal
+            )
             told = os.read(leader, 4096).decode().replace("\r\n", "\n")
         finally:
             os.close(leader)
@@ -391,7 +417,9 @@ class Install(Tree):
         done = run(str(tools / "roman-talk"), home, env=path, cwd="/", input="do brighten\n")
         self.assertIn("offer window ceiling", done.stdout)
         done = run(str(tools / "roman-live"), "gone.toml", env=path, cwd="/")
-        self.assertEqual((done.returncode, done.stdout, done.stderr), (2, "", "roman-live: gone.toml: No such file or directory\n"))
+        self.assertEqual(
+            (done.returncode, done.stdout, done.stderr), (2, "", "roman-live: gone.toml: No such file or directory\n")
+        )
 
     def test_what_the_tools_need_is_named(self) -> None:
         self.build()
@@ -459,7 +487,9 @@ class Install(Tree):
         for words in (["roman-draw", lamp, "--dot"], ["roman-live", "--help"]):
             done = run(str(root / "usr/bin" / words[0]), *words[1:], env=path)
             self.assertEqual((done.returncode, done.stderr), (0, ""))
-        self.assertIn("Maintainer: Some One <one@example.org>\n", run("dpkg-deb", "--info", str(deb)).stdout.replace("\n ", "\n"))
+        self.assertIn(
+            "Maintainer: Some One <one@example.org>\n", run("dpkg-deb", "--info", str(deb)).stdout.replace("\n ", "\n")
+        )
         for place in (
             "share/man/man1/roman.1.gz",
             "share/man/man1/roman-live.1.gz",
@@ -544,8 +574,13 @@ class Gate(unittest.TestCase):
         file.write_text(f"#!/usr/bin/env bash\n{text}\n", encoding="utf-8")
         file.chmod(0o755)
 
-    def gate(self, proofs: str, samples: str = "echo 'samples: 2 passed, 0 failed'", tests: str = "echo 'tests: 3 passed, 0 failed'",
-             tools: str = "exit 0") -> Ended:
+    def gate(
+        self,
+        proofs: str,
+        samples: str = "echo 'samples: 2 passed, 0 failed'",
+        tests: str = "echo 'tests: 3 passed, 0 failed'",
+        tools: str = "exit 0",
+    ) -> Ended:
         for name, text in (("bin/rt", proofs), ("samples/try", samples), ("tests/run", tests), ("tools/debian", tools)):
             self.stub(name, text)
         path = f"{self.top}/bin:{os.environ['PATH']}"
@@ -558,7 +593,10 @@ class Gate(unittest.TestCase):
         self.assertEqual(self.last(self.gate("echo '[ $* ]'; echo '7 passed, 0 failed'")), (0, "12 passed, 0 failed"))
 
     def test_each_proved_crate_has_its_time(self) -> None:
-        done = self.gate("echo 'rt: one proved'; echo 'rt: one: its tests are NOT PROVED'; echo 'rt: a line'; echo '7 passed, 0 failed'")
+        done = self.gate(
+            "echo 'rt: one proved'; echo 'rt: one: its tests are NOT PROVED'; echo 'rt: a line'; "
+            "echo '7 passed, 0 failed'"
+        )
         self.assertEqual(self.last(done), (0, "12 passed, 0 failed"))
         self.assertRegex(done.stdout, r"(?m)^rt: one proved \(\d+ s into the gate\)$")
         self.assertRegex(done.stdout, r"(?m)^rt: one: its tests are NOT PROVED \(\d+ s into the gate\)$")
@@ -571,16 +609,24 @@ class Gate(unittest.TestCase):
         self.assertEqual(self.last(self.gate("echo '6 passed, 1 failed'; exit 1")), (1, "11 passed, 1 failed"))
         self.assertEqual(self.last(self.gate("exit 1")), (1, "5 passed, 1 failed"))
         self.assertEqual(self.last(self.gate("echo '7 passed, 0 failed'; exit 1")), (1, "12 passed, 1 failed"))
-        self.assertEqual(self.last(self.gate("echo '7 passed, 0 failed'", samples="exit 0")), (1, "10 passed, 1 failed"))
+        self.assertEqual(
+            self.last(self.gate("echo '7 passed, 0 failed'", samples="exit 0")), (1, "10 passed, 1 failed")
+        )
         self.assertEqual(self.last(self.gate("echo '7 passed, 0 failed'", tools="exit 1")), (1, "12 passed, 1 failed"))
 
     def test_edits_that_say_nothing(self) -> None:
-        for said in ("rt: must-fail a/b.edit: BAD EDIT: no such text", "rt: must-fail a/b.edit: NOT TRIED: its check was killed"):
+        for said in (
+            "rt: must-fail a/b.edit: BAD EDIT: no such text",
+            "rt: must-fail a/b.edit: NOT TRIED: its check was killed",
+        ):
             with self.subTest(said):
                 done = self.gate(f"echo '{said}'; echo '7 passed, 0 failed'")
                 self.assertEqual(self.last(done), (1, "12 passed, 1 failed"))
-        for said in ("rt: must-fail a/b.edit: refused, as it must be (only because a proof file names what the edit took away, so ..)",
-                     "rt: must-fail a/b.edit: refused, as it must be (only by a limit of the prover, which gave no verdict)"):
+        for said in (
+            "rt: must-fail a/b.edit: refused, as it must be "
+            "(only because a proof file names what the edit took away, so ..)",
+            "rt: must-fail a/b.edit: refused, as it must be (only by a limit of the prover, which gave no verdict)",
+        ):
             with self.subTest(said):
                 done = self.gate(f"echo '{said}'; echo '7 passed, 0 failed'")
                 self.assertEqual(self.last(done), (1, "12 passed, 1 failed"))
@@ -613,8 +659,11 @@ class Gate(unittest.TestCase):
         """The last line of the tests of a file with one test in it."""
         self.stub("program", "exit 0")
         (self.top / "tests/test_one.py").write_text(
-            f"import unittest\n\nclass One(unittest.TestCase):\n    def test(self):\n        {body}\n", encoding="utf-8")
-        return run(str(self.top / "tests/run"), env={**os.environ, "ROMAN": str(self.top / "program")}).stdout.splitlines()[-1]
+            f"import unittest\n\nclass One(unittest.TestCase):\n    def test(self):\n        {body}\n", encoding="utf-8"
+        )
+        return run(
+            str(self.top / "tests/run"), env={**os.environ, "ROMAN": str(self.top / "program")}
+        ).stdout.splitlines()[-1]
 
     def test_a_test_that_is_skipped_has_failed(self) -> None:
         self.assertEqual(self.last_line_of("pass"), "tests: 1 passed, 0 failed")
@@ -647,19 +696,41 @@ class Client(unittest.TestCase):
         with tempfile.TemporaryDirectory() as folder:
             source = Path(folder) / "source"
             shutil.copytree(TOP / "python", source, ignore=shutil.ignore_patterns("__pycache__", "build", "*.egg-info"))
-            done = run("/usr/bin/python3", "-m", "pip", "install", "--quiet", "--no-deps", "--no-index", "--no-build-isolation",
-                       "--target", f"{folder}/site", str(source), env={**os.environ, "PIP_ROOT_USER_ACTION": "ignore", "PIP_DISABLE_PIP_VERSION_CHECK": "1"})
+            done = run(
+                "/usr/bin/python3",
+                "-m",
+                "pip",
+                "install",
+                "--quiet",
+                "--no-deps",
+                "--no-index",
+                "--no-build-isolation",
+                "--target",
+                f"{folder}/site",
+                str(source),
+                env={**os.environ, "PIP_ROOT_USER_ACTION": "ignore", "PIP_DISABLE_PIP_VERSION_CHECK": "1"},
+            )
             self.assertEqual(done.returncode, 0, done.stderr)
             self.assertTrue((Path(folder) / "site/roman_client/py.typed").is_file())
-            script = (f"import roman_client\nwith roman_client.Session('samples/lamp.json', program={PROGRAM!r}) as session:\n"
-                      "    print(roman_client.__file__.startswith(" + repr(folder) + "), session.do('on').services)")
+            script = (
+                "import roman_client\n"
+                f"with roman_client.Session('samples/lamp.json', program={PROGRAM!r}) as session:\n"
+                "    print(roman_client.__file__.startswith(" + repr(folder) + "), session.do('on').services)"
+            )
             done = run("/usr/bin/python3", "-c", script, cwd=TOP, env={**os.environ, "PYTHONPATH": f"{folder}/site"})
             self.assertEqual((done.returncode, done.stdout, done.stderr), (0, "True ('l1',)\n", ""))
             for name in ("roman-live", *TOOLS):
-                done = run(f"{folder}/site/bin/{name}", "--help", cwd="/", env={**os.environ, "PYTHONPATH": f"{folder}/site"})
+                done = run(
+                    f"{folder}/site/bin/{name}", "--help", cwd="/", env={**os.environ, "PYTHONPATH": f"{folder}/site"}
+                )
                 self.assertEqual((done.returncode, done.stderr), (0, ""))
                 self.assertTrue(done.stdout.startswith(f"usage: {name} "), done.stdout)
-            done = run(f"{folder}/site/bin/roman-expand", "samples/short/home.json", cwd=TOP, env={**os.environ, "PYTHONPATH": f"{folder}/site"})
+            done = run(
+                f"{folder}/site/bin/roman-expand",
+                "samples/short/home.json",
+                cwd=TOP,
+                env={**os.environ, "PYTHONPATH": f"{folder}/site"},
+            )
             self.assertEqual((done.returncode, done.stderr), (0, ""))
 
 
@@ -684,10 +755,10 @@ class Manual(unittest.TestCase):
 
 
 class Completion(unittest.TestCase):
-    def complete(self, *words: str) -> List[str]:
+    def complete(self, *words: str) -> list[str]:
         job = {"roman": "_roman", "roman-live": "_roman_live"}.get(words[0], "_roman_tool")
         script = (
-            f"source tools/roman.bash; COMP_WORDS=(\"$@\"); COMP_CWORD=$(($# - 1)); {job};"
+            f'source tools/roman.bash; COMP_WORDS=("$@"); COMP_CWORD=$(($# - 1)); {job};'
             ' printf "%s\\n" "${COMPREPLY[@]}"'
         )
         done = run("bash", "-c", script, "bash", *words, cwd=TOP)
@@ -712,7 +783,11 @@ class Completion(unittest.TestCase):
     def test_tools(self) -> None:
         for tool in TOOLS:
             with self.subTest(tool):
-                told = set(re.findall(r"(?<!\w)--?[a-z][a-z-]*", run(str(TOP / "tools" / tool), "--help").stdout.split("\n\n")[0])) - {"-h"}
+                told = set(
+                    re.findall(
+                        r"(?<!\w)--?[a-z][a-z-]*", run(str(TOP / "tools" / tool), "--help").stdout.split("\n\n")[0]
+                    )
+                ) - {"-h"}
                 self.assertEqual(set(self.complete(tool, "-")), told | {"--help"})
                 self.assertEqual(self.complete(tool, "samples/ho"), ["samples/home.json"])
         self.assertEqual(self.complete("roman-draw", "--explanation", "samples/home.s"), ["samples/home.session"])
@@ -736,7 +811,7 @@ class Completion(unittest.TestCase):
 class OtherShells(unittest.TestCase):
     """The completion for fish and zsh."""
 
-    def fish(self, line: str) -> List[str]:
+    def fish(self, line: str) -> list[str]:
         done = run("fish", "-c", f"source tools/roman.fish; complete -C '{line}'", cwd=TOP)
         self.assertEqual((done.returncode, done.stderr), (0, ""))
         return [each.split("\t")[0] for each in done.stdout.splitlines()]
@@ -750,7 +825,8 @@ class OtherShells(unittest.TestCase):
         try:
             setup = (
                 'PS1=; autoload -Uz compinit; compinit -u -D; bindkey "^I" complete-word;'
-                ' source tools/roman.zsh 2>/dev/null; compdef _roman roman roman-lint roman-live roman-talk; print REA""DY\n'
+                " source tools/roman.zsh 2>/dev/null; "
+                'compdef _roman roman roman-lint roman-live roman-talk; print REA""DY\n'
             )
             os.write(terminal, setup.encode())
             self.wait_for(terminal, "READY")
@@ -794,9 +870,9 @@ class OtherShells(unittest.TestCase):
         self.zsh("roman run samples/home.json samples/hom", "samples/home.session")
 
 
-def commands(usage: str) -> List[str]:
+def commands(usage: str) -> list[str]:
     """The commands of the usage line."""
-    words: Dict[str, None] = {}
+    words: dict[str, None] = {}
     for form in usage.removeprefix("usage: roman ").split(" | "):
         words[form.split()[0]] = None
     return list(words)

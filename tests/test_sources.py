@@ -3,8 +3,8 @@
 import re
 import unittest
 from collections import Counter, defaultdict
+from collections.abc import Iterator
 from pathlib import Path
-from typing import Dict, Iterator, List
 
 from definitions import Definition, digests, is_declared, promises, rests_on
 
@@ -22,7 +22,7 @@ PASSED_ON = re.compile(r"(?:unfoldable )?pub use \S+\.\{(.*)\}$")
 
 # What readers are sent to, and on how many definitions it rests. Of the headline it is what is promised of sessions and
 # of `synth`, the meaning of documents included.
-RESTS_ON: Dict[Definition, int] = {
+RESTS_ON: dict[Definition, int] = {
     Definition("roman_model.specs.Composition", "Great"): 23,
     Definition("roman_model.specs.Several", "GreatAll"): 23,
     Definition("roman_top.specs.Headline", "KeepsPromise"): 258,
@@ -32,8 +32,13 @@ RESTS_ON: Dict[Definition, int] = {
 # The pages of what is computed of a system, and of what a session keeps. Beside the meaning of documents the headline
 # needs none of them, but for the entries of an explanation.
 NOT_IN_HEADLINE = {
-    "roman_model.specs.Arena", "roman_model.specs.CompleteLists", "roman_model.specs.Offers", "roman_model.specs.Play",
-    "roman_model.specs.SystemArena", "roman_session.specs.Situations", "roman_session.specs.Steps",
+    "roman_model.specs.Arena",
+    "roman_model.specs.CompleteLists",
+    "roman_model.specs.Offers",
+    "roman_model.specs.Play",
+    "roman_model.specs.SystemArena",
+    "roman_session.specs.Situations",
+    "roman_session.specs.Steps",
 }
 DOCUMENTS = Definition("roman_library.specs.Documents", "library_of")
 ENTRY = Definition("roman_model.specs.Arena", "Entry")
@@ -61,7 +66,7 @@ def declarations(page: str, depth: int = 0) -> Iterator[str]:
     for declaration in re.split(rf"\n\n {{{depth}}}(?! )", page):
         head = MODULE.match(declaration)
         if head:
-            yield from declarations(declaration[head.end():], depth + 2)
+            yield from declarations(declaration[head.end() :], depth + 2)
         else:
             yield declaration
 
@@ -77,15 +82,17 @@ class Promises(unittest.TestCase):
         self.assertEqual(clauses, [("ensures", name, definition) for name, definition in PROMISES.items()])
 
     def test_the_digests_of_the_pages(self) -> None:
-        kept, now = (dict(line.split("  ")[::-1] for line in text.splitlines())
-                     for text in (PAGES.read_text(encoding="utf-8"), digests()))
+        kept, now = (
+            dict(line.split("  ")[::-1] for line in text.splitlines())
+            for text in (PAGES.read_text(encoding="utf-8"), digests())
+        )
         changed = {page for page in {*kept, *now} if kept.get(page) != now.get(page)}
         self.assertEqual(changed, set(), "If the change is meant, tools/pages renews the digests")
 
 
 class Sources(unittest.TestCase):
     def test_other_crates_are_cited_by_their_page_for_callers(self) -> None:
-        inside: List[str] = []
+        inside: list[str] = []
         for part, ending in (("proofs", ".antt"), ("specs", ".antt"), ("src", ".rt")):
             for file in sources(part, ending):
                 mine = file.relative_to(CRATES).parts[0]
@@ -96,7 +103,7 @@ class Sources(unittest.TestCase):
         self.assertEqual(inside, [])
 
     def test_the_page_of_common_names_passes_on_what_pages_cite(self) -> None:
-        unused: List[str] = []
+        unused: list[str] = []
         for file in sources("proofs", "Common.antt"):
             folder = file.parent
             taken: Counter = Counter()
@@ -107,15 +114,24 @@ class Sources(unittest.TestCase):
                         taken.update(found[2].split(", "))
             for line in file.read_text(encoding="utf-8").splitlines():
                 passed = PASSED_ON.match(line)
-                unused += [f"{file.relative_to(TOP)}: {name}" for name in passed[1].split(", ") if not taken[name]] if passed else []
+                unused += (
+                    [f"{file.relative_to(TOP)}: {name}" for name in passed[1].split(", ") if not taken[name]]
+                    if passed
+                    else []
+                )
         self.assertEqual(unused, [])
 
     def test_pages_take_names_from_elsewhere_by_the_page_of_common_names(self) -> None:
-        direct: List[str] = []
+        direct: list[str] = []
         for file in sources("proofs", "Common.antt"):
             folder = file.parent
-            passed = {name for line in file.read_text(encoding="utf-8").splitlines()
-                      for found in [PASSED_ON.match(line)] if found for name in found[1].split(", ")}
+            passed = {
+                name
+                for line in file.read_text(encoding="utf-8").splitlines()
+                for found in [PASSED_ON.match(line)]
+                if found
+                for name in found[1].split(", ")
+            }
             for page in folder.rglob("*.antt"):
                 if page.name in ("Lib.antt", "CallerLemmas.antt", "Common.antt"):
                     continue
@@ -123,24 +139,30 @@ class Sources(unittest.TestCase):
                     found = TAKEN.match(line)
                     if found and not found[1].startswith(f"Rattle.{folder.parent.name}.proofs."):
                         # A name that two pages elsewhere declare can be passed on from one of them only.
-                        direct += [f"{page.relative_to(TOP)}: {name}" for name in found[2].split(", ")
-                                   if name not in passed and " as " not in name]
+                        direct += [
+                            f"{page.relative_to(TOP)}: {name}"
+                            for name in found[2].split(", ")
+                            if name not in passed and " as " not in name
+                        ]
         self.assertEqual(direct, [])
 
     def test_a_definition_s_name_stands_for_one_thing(self) -> None:
-        places: Dict[str, List[str]] = defaultdict(list)
+        places: dict[str, list[str]] = defaultdict(list)
         for file in sources("specs", ".antt"):
             for found in DEFINED.finditer(file.read_text(encoding="utf-8")):
                 places[found[1]].append(str(file.relative_to(TOP)))
         self.assertEqual({name: where for name, where in places.items() if len(where) > 1}, {})
 
     def test_each_lemma_is_cited(self) -> None:
-        pages = {file: file.read_text(encoding="utf-8") for part, ending in
-                 (("proofs", ".antt"), ("specs", ".antt"), ("src", ".rt")) for file in sources(part, ending)}
+        pages = {
+            file: file.read_text(encoding="utf-8")
+            for part, ending in (("proofs", ".antt"), ("specs", ".antt"), ("src", ".rt"))
+            for file in sources(part, ending)
+        }
         everywhere: Counter = Counter()
         for page in pages.values():
             everywhere.update(words(page))
-        uncited: List[str] = []
+        uncited: list[str] = []
         for file in sources("proofs", ".antt"):
             # Answers and invariants are named by the prover, and examples are there for themselves.
             if file.name in ("Answers.antt", "Invariants.antt") or file.name.endswith("Examples.antt"):
@@ -160,6 +182,9 @@ class Sources(unittest.TestCase):
         self.assertEqual(counts, RESTS_ON)
 
     def test_the_headline_names_nothing_that_is_computed(self) -> None:
-        for root in (Definition("roman_top.specs.Headline", "KeepsPromise"), Definition("roman_top.specs.HeadlineTargets", "KeepsTargets")):
+        for root in (
+            Definition("roman_top.specs.Headline", "KeepsPromise"),
+            Definition("roman_top.specs.HeadlineTargets", "KeepsTargets"),
+        ):
             beside = rests_on([root]) - rests_on([DOCUMENTS])
             self.assertEqual({found for found in beside if found.page in NOT_IN_HEADLINE}, {ENTRY})

@@ -16,7 +16,7 @@ import unittest
 from concurrent.futures import ThreadPoolExecutor
 from dataclasses import dataclass
 from pathlib import Path
-from typing import Any, Dict, List, Tuple
+from typing import Any
 
 import pytest
 
@@ -43,8 +43,14 @@ RELATED = {"workers": 12287, "lamps": 19, "cycle": 0}
 """How many pairs of each system are related: (N + 2) 2^N - 1 of N workers, N + 1 of N lamps."""
 
 
-def system(states: List[str], actions: List[str], steps: List[List[object]], behaviours: List[Dict[str, object]],
-           services: List[Tuple[str, str]], target: Dict[str, object]) -> Dict[str, object]:
+def system(
+    states: list[str],
+    actions: list[str],
+    steps: list[list[object]],
+    behaviours: list[dict[str, object]],
+    services: list[tuple[str, str]],
+    target: dict[str, object],
+) -> dict[str, object]:
     return {
         "roman": 1,
         "limit": LIMIT,
@@ -55,42 +61,94 @@ def system(states: List[str], actions: List[str], steps: List[List[object]], beh
     }
 
 
-def workers() -> Dict[str, object]:
+def workers() -> dict[str, object]:
     """Ten workers that wear out, and are mended."""
     actions = ["start", "stop", "mend", "hold", "go"]
-    steps = [("idle", "start", "busy"), ("busy", "stop", "idle"), ("busy", "stop", "worn"), ("busy", "hold", "busy"),
-             ("busy", "go", "busy"), ("worn", "mend", "idle"), ("idle", "mend", "idle")]
-    asked = [("rest", "start", "work"), ("work", "stop", "tidy"), ("tidy", "mend", "rest"), ("work", "hold", "pause"),
-             ("pause", "go", "work")]
-    worker = {"name": "worker", "states": ["idle", "busy", "worn"], "start": "idle", "final": ["idle", "worn"],
-              "steps": [[b, True, a, c] for b, a, c in steps]}
-    target = {"states": ["rest", "work", "tidy", "pause"], "start": "rest", "final": ["rest"],
-              "steps": [[b, True, a, c] for b, a, c in asked]}
-    return system(["floor"], actions, [["floor", a, "floor"] for a in actions], [worker],
-                  [(f"w{i}", "worker") for i in range(1, 11)], target)
+    steps = [
+        ("idle", "start", "busy"),
+        ("busy", "stop", "idle"),
+        ("busy", "stop", "worn"),
+        ("busy", "hold", "busy"),
+        ("busy", "go", "busy"),
+        ("worn", "mend", "idle"),
+        ("idle", "mend", "idle"),
+    ]
+    asked = [
+        ("rest", "start", "work"),
+        ("work", "stop", "tidy"),
+        ("tidy", "mend", "rest"),
+        ("work", "hold", "pause"),
+        ("pause", "go", "work"),
+    ]
+    worker = {
+        "name": "worker",
+        "states": ["idle", "busy", "worn"],
+        "start": "idle",
+        "final": ["idle", "worn"],
+        "steps": [[b, True, a, c] for b, a, c in steps],
+    }
+    target = {
+        "states": ["rest", "work", "tidy", "pause"],
+        "start": "rest",
+        "final": ["rest"],
+        "steps": [[b, True, a, c] for b, a, c in asked],
+    }
+    return system(
+        ["floor"],
+        actions,
+        [["floor", a, "floor"] for a in actions],
+        [worker],
+        [(f"w{i}", "worker") for i in range(1, 11)],
+        target,
+    )
 
 
-def lamps() -> Dict[str, object]:
+def lamps() -> dict[str, object]:
     """Eighteen lamps, and a target that is a lamp."""
-    machine = {"states": ["off", "on"], "start": "off", "final": ["off"],
-               "steps": [["off", True, "on", "on"], ["on", True, "off", "off"]]}
-    return system(["e"], ["on", "off"], [["e", "on", "e"], ["e", "off", "e"]], [{"name": "lamp", **machine}],
-                  [(f"l{i}", "lamp") for i in range(1, 19)], machine)
+    machine = {
+        "states": ["off", "on"],
+        "start": "off",
+        "final": ["off"],
+        "steps": [["off", True, "on", "on"], ["on", True, "off", "off"]],
+    }
+    return system(
+        ["e"],
+        ["on", "off"],
+        [["e", "on", "e"], ["e", "off", "e"]],
+        [{"name": "lamp", **machine}],
+        [(f"l{i}", "lamp") for i in range(1, 19)],
+        machine,
+    )
 
 
-def cycle() -> Dict[str, object]:
+def cycle() -> dict[str, object]:
     """One refutation through all pairs, one pair at nearly each of its depths."""
     worlds, wants, states = ([f"{c}{i}" for i in range(n)] for c, n in (("e", 64), ("t", 63), ("s", 61)))
-    wheel = {"name": "wheel", "states": states, "start": "s0", "final": states,
-             "steps": [[states[i], {"not": ["e63"]} if i == 60 else True, "go", states[(i + 1) % 61]] for i in range(61)]}
+    wheel = {
+        "name": "wheel",
+        "states": states,
+        "start": "s0",
+        "final": states,
+        "steps": [[states[i], {"not": ["e63"]} if i == 60 else True, "go", states[(i + 1) % 61]] for i in range(61)],
+    }
     idle = {"name": "idle", "states": ["o"], "start": "o", "final": ["o"], "steps": []}
-    target = {"states": wants, "start": "t0", "final": [],
-              "steps": [[wants[i], True, "go", wants[(i + 1) % 63]] for i in range(63)]}
-    return system(worlds, ["go"], [[worlds[i], "go", worlds[(i + 1) % 64]] for i in range(64)], [wheel, idle],
-                  [("c", "wheel"), ("d", "idle")], target)
+    target = {
+        "states": wants,
+        "start": "t0",
+        "final": [],
+        "steps": [[wants[i], True, "go", wants[(i + 1) % 63]] for i in range(63)],
+    }
+    return system(
+        worlds,
+        ["go"],
+        [[worlds[i], "go", worlds[(i + 1) % 64]] for i in range(64)],
+        [wheel, idle],
+        [("c", "wheel"), ("d", "idle")],
+        target,
+    )
 
 
-def session(names: List[str], behaviour: str, state: str, action: str) -> str:
+def session(names: list[str], behaviour: str, state: str, action: str) -> str:
     """Freezes, thaws, deaths and joins of the first, the middle and the last service, each with a request."""
     asked = [f"do {action}", "abort"]
     lines = ["report"]
@@ -124,19 +182,27 @@ class Bench:
             (folder / f"{name}.json").write_text(json.dumps(made, separators=(",", ":")), encoding="utf-8")
         for name in ("workers", "lamps"):
             (folder / f"{name}.cert").write_bytes(self.run([], [PROGRAM, "certify", f"{name}.json"]).text)
-        (folder / "workers.session").write_text(session([f"w{i}" for i in range(1, 11)], "worker", "idle", "start"), encoding="utf-8")
-        (folder / "lamps.session").write_text(session([f"l{i}" for i in range(1, 19)], "lamp", "off", "on"), encoding="utf-8")
-        (folder / "lamps.talk").write_text("do on\nuse l1\nsaw on e\ndo off\nuse l1\nsaw off e\n" * 2000, encoding="utf-8")
+        (folder / "workers.session").write_text(
+            session([f"w{i}" for i in range(1, 11)], "worker", "idle", "start"), encoding="utf-8"
+        )
+        (folder / "lamps.session").write_text(
+            session([f"l{i}" for i in range(1, 19)], "lamp", "off", "on"), encoding="utf-8"
+        )
+        (folder / "lamps.talk").write_text(
+            "do on\nuse l1\nsaw on e\ndo off\nuse l1\nsaw off e\n" * 2000, encoding="utf-8"
+        )
 
-    def run(self, by: List[str], words: List[str], found: str = "") -> Ended:
+    def run(self, by: list[str], words: list[str], found: str = "") -> Ended:
         """A run by a program that measures, whose figures stand on the standard error."""
-        done = subprocess.run([*by, *words], cwd=self.folder, stdin=subprocess.DEVNULL, capture_output=True, timeout=400, check=False)
+        done = subprocess.run(
+            [*by, *words], cwd=self.folder, stdin=subprocess.DEVNULL, capture_output=True, timeout=400, check=False
+        )
         figures = re.findall(found, done.stderr.decode()) if found else []
         if found and not figures:
             raise AssertionError(done.stderr.decode())
         return Ended(done.returncode, done.stdout, sum(map(float, figures)))
 
-    def words(self, name: str, command: str) -> List[str]:
+    def words(self, name: str, command: str) -> list[str]:
         more = {"check": [f"{name}.cert"], "run": [f"{name}.session"], "talk": [f"{name}.talk"]}
         return [PROGRAM, "run" if command == "talk" else command, f"{name}.json", *more.get(command, [])]
 
@@ -163,24 +229,28 @@ def digest(text: bytes) -> str:
     return hashlib.sha256(plain(text)).hexdigest()[:16]
 
 
-def measured(folder: Path) -> Dict[str, Dict[str, Dict[str, Any]]]:
+def measured(folder: Path) -> dict[str, dict[str, dict[str, Any]]]:
     """The table of figures, with the status and the output of each run."""
     bench = Bench(folder)
     runs = [(name, command) for name, commands in MEASURED.items() for command in commands]
     with ThreadPoolExecutor(4) as pool:
         counted = list(pool.map(lambda each: bench.millions(*each), runs))
         peaks = list(pool.map(lambda each: bench.megabytes(*each), runs))
-    table: Dict[str, Dict[str, Dict[str, Any]]] = {name: {} for name in MEASURED}
+    table: dict[str, dict[str, dict[str, Any]]] = {name: {} for name in MEASURED}
     for (name, command), count, peak in zip(runs, counted, peaks):
         if (count.status, count.text) != (peak.status, peak.text):
             raise AssertionError(f"two runs of {command} on {name} differ")
-        table[name][command] = {"millions": round(count.figure, 1), "megabytes": round(peak.figure, 1),
-                                "status": count.status, "output": digest(count.text)}
+        table[name][command] = {
+            "millions": round(count.figure, 1),
+            "megabytes": round(peak.figure, 1),
+            "status": count.status,
+            "output": digest(count.text),
+        }
     return table
 
 
 class Speed(unittest.TestCase):
-    table: Dict[str, Dict[str, Dict[str, Any]]]
+    table: dict[str, dict[str, dict[str, Any]]]
 
     @classmethod
     def setUpClass(cls) -> None:
@@ -190,21 +260,30 @@ class Speed(unittest.TestCase):
         cls.reached = json.loads(TABLE.read_text(encoding="utf-8"))
         cls.table = measured(cls.folder)
 
-    def each(self) -> List[Tuple[str, str, Dict[str, Any], Dict[str, Any]]]:
-        return [(name, command, self.reached[name][command], now)
-                for name, commands in self.table.items() for command, now in commands.items()]
+    def each(self) -> list[tuple[str, str, dict[str, Any], dict[str, Any]]]:
+        return [
+            (name, command, self.reached[name][command], now)
+            for name, commands in self.table.items()
+            for command, now in commands.items()
+        ]
 
     def test_each_figure_is_measured(self) -> None:
-        self.assertEqual({name: sorted(commands) for name, commands in self.reached.items()},
-                         {name: sorted(commands) for name, commands in MEASURED.items()})
+        self.assertEqual(
+            {name: sorted(commands) for name, commands in self.reached.items()},
+            {name: sorted(commands) for name, commands in MEASURED.items()},
+        )
 
     def test_what_is_measured_is_right(self) -> None:
         """The certificates that are checked are right, and each run ends as it did, with what it wrote then."""
         for name, related in RELATED.items():
-            report = subprocess.run([PROGRAM, "synth", f"{name}.json"], cwd=self.folder, capture_output=True, check=False)
+            report = subprocess.run(
+                [PROGRAM, "synth", f"{name}.json"], cwd=self.folder, capture_output=True, check=False
+            )
             self.assertIn(f"\nrelated {related}\n", report.stdout.decode())
         for name in ("workers", "lamps"):
-            done = subprocess.run([PROGRAM, "check", f"{name}.json", f"{name}.cert"], cwd=self.folder, capture_output=True, check=False)
+            done = subprocess.run(
+                [PROGRAM, "check", f"{name}.json", f"{name}.cert"], cwd=self.folder, capture_output=True, check=False
+            )
             self.assertEqual(done.stdout.decode(), f"greatest {RELATED[name]}\nanswer composition\n")
         for name, command, reached, now in self.each():
             with self.subTest(system=name, command=command):
@@ -215,7 +294,9 @@ class Speed(unittest.TestCase):
             with self.subTest(system=name, command=command):
                 room = SLACK if figure == "megabytes" else 0
                 self.assertLess(now[figure], reached[figure] * MOST + room)
-                self.assertGreater(now[figure], reached[figure] * LEAST - room, "a gain: write it down by tests/speed.py")
+                self.assertGreater(
+                    now[figure], reached[figure] * LEAST - room, "a gain: write it down by tests/speed.py"
+                )
 
     def test_instructions(self) -> None:
         self.bounded("millions")

@@ -1,4 +1,4 @@
-"""The form of the packages, of their tests and of the examples: types, names that nothing uses, and layout."""
+"""The form of the packages, of all tests and of the examples: types, names that nothing uses, and layout."""
 
 import subprocess
 import sys
@@ -10,9 +10,9 @@ PYTHON = Path(__file__).resolve().parents[1]
 
 CHECKERS = {
     "mypy": ["/usr/bin/mypy", "src", "tests", "examples"],
-    "flake8": [sys.executable, "-m", "flake8"],
-    "isort": [sys.executable, "-m", "isort", "--check", "."],
-    "black": ["/usr/bin/black", "--check", "--quiet", "."],
+    "flake8": [sys.executable, "-m", "flake8", ".", "../tests"],
+    "isort": [sys.executable, "-m", "isort", "--check", "--settings-path", ".", ".", "../tests"],
+    "black": ["/usr/bin/black", "--check", "--quiet", "--config", "pyproject.toml", ".", "../tests"],
 }
 
 

@@ -3,12 +3,13 @@
 from __future__ import annotations
 
 import enum
+from collections.abc import Callable
 from dataclasses import dataclass
-from typing import Callable, Optional, Tuple, Union
+from typing import Union
 
 from .errors import RomanError
 
-Outcome = Tuple[str, str]
+Outcome = tuple[str, str]
 """The state in which a service is now, and that of the environment."""
 
 
@@ -60,7 +61,7 @@ class Call:
     action: str
     request: str
     number: int
-    key: Optional[str] = None
+    key: str | None = None
 
 
 class Device:
@@ -72,7 +73,7 @@ class Device:
     by `state` whether it did the call, and no other device does it before that is known.
     """
 
-    timeout: Optional[float] = None
+    timeout: float | None = None
     repeatable: bool = False
     late_is_doubt: bool = False
 
@@ -99,8 +100,8 @@ class FunctionDevice(Device):
     def __init__(
         self,
         act: Act,
-        state: Optional[State],
-        timeout: Optional[float],
+        state: State | None,
+        timeout: float | None,
         repeatable: bool,
         late_is_doubt: bool = False,
     ) -> None:
@@ -120,8 +121,8 @@ class FunctionDevice(Device):
 def device(
     act: Act,
     *,
-    state: Optional[State] = None,
-    timeout: Optional[float] = None,
+    state: State | None = None,
+    timeout: float | None = None,
     repeatable: bool = False,
     late_is_doubt: bool = False,
 ) -> Device:

@@ -10,9 +10,10 @@ import itertools
 import json
 import math
 import os
+from collections.abc import Iterator, Mapping, Sequence
 from dataclasses import dataclass
 from pathlib import Path
-from typing import Any, Dict, FrozenSet, Iterator, List, Mapping, NamedTuple, Optional, Protocol, Sequence, Tuple, Union
+from typing import Any, NamedTuple, Protocol, Union
 
 from .errors import RomanError
 from .replies import Service
@@ -68,12 +69,12 @@ class EnvironmentStep(NamedTuple):
 class Environment:
     """The machine that all share."""
 
-    states: Tuple[str, ...]
+    states: tuple[str, ...]
     start: str
-    actions: Tuple[str, ...]
-    steps: Tuple[EnvironmentStep, ...]
+    actions: tuple[str, ...]
+    steps: tuple[EnvironmentStep, ...]
 
-    def after(self, state: str, action: str) -> Tuple[str, ...]:
+    def after(self, state: str, action: str) -> tuple[str, ...]:
         """The states to which an action may lead from that one, each once."""
         found = (step.to for step in self.steps if step.state == state and step.action == action)
         return tuple(dict.fromkeys(found))
@@ -84,12 +85,12 @@ class Machine:
     """A behaviour or a target. A single target has no name."""
 
     name: str
-    states: Tuple[str, ...]
+    states: tuple[str, ...]
     start: str
-    final: FrozenSet[str]
-    steps: Tuple[Step, ...]
+    final: frozenset[str]
+    steps: tuple[Step, ...]
 
-    def after(self, state: str, environment: str, action: str) -> Tuple[str, ...]:
+    def after(self, state: str, environment: str, action: str) -> tuple[str, ...]:
         """The states to which an action may lead from that one, in that state of the environment, each
         once."""
         found = (
@@ -133,7 +134,7 @@ class Document:
     def _take(self, value: Any) -> None:
         if nesting(value) > DEEPEST:
             raise ValueError(f"more than {DEEPEST} lists and objects stand within each other")
-        self.value: Dict[str, Any] = dict(value)
+        self.value: dict[str, Any] = dict(value)
         self.version: int = value["roman"]
         if type(self.version) is not int or not 1 <= self.version <= 3:
             raise ValueError(f"{self.version!r} is no version")
@@ -159,7 +160,7 @@ class Document:
             self.version != 1 and not flag(value.get("rests", True)),
         )
 
-    def _combined_states(self) -> Mapping[str, Tuple[str, ...]]:
+    def _combined_states(self) -> Mapping[str, tuple[str, ...]]:
         """The states of all targets, by the text that stands for them."""
         count = math.prod(len(target.states) for target in self.targets)
         if count > MOST_STATES:
@@ -184,7 +185,7 @@ class Document:
         }
 
     @classmethod
-    def load(cls, path: PathLike, folder: Optional[PathLike] = None) -> Document:
+    def load(cls, path: PathLike, folder: PathLike | None = None) -> Document:
         """Reads a document with its part files. `folder` is where both names count from, as they do for
         the program that runs there; the working folder, where it is None. Raises DocumentError."""
         top = Path() if folder is None else Path(folder)
@@ -210,12 +211,12 @@ class Document:
         return "-".join(target.start for target in self.targets)
 
     @property
-    def actions(self) -> Tuple[str, ...]:
+    def actions(self) -> tuple[str, ...]:
         """The actions that may be requested, in the order of a report: of one target, those of the
         environment; of several, those that name a target."""
         return tuple(self._requests)
 
-    def target_states(self, state: str) -> Tuple[str, ...]:
+    def target_states(self, state: str) -> tuple[str, ...]:
         """The states of all targets that one text stands for, as `bright-watering` does. Raises
         DocumentError where it stands for none."""
         if state not in self._combined:
@@ -232,7 +233,7 @@ class Document:
             raise DocumentError(f"{action} is no action that may be requested")
         return self._requests[action]
 
-    def target_after(self, state: str, environment: str, action: str) -> Optional[str]:
+    def target_after(self, state: str, environment: str, action: str) -> str | None:
         """The target's state after a request, or None where the target doesn't have it there. (The
         environment may still lack the action there; see `allowed`.)"""
         states = self.target_states(state)
@@ -240,7 +241,7 @@ class Document:
         found = self.targets[seat].after(states[seat], environment, plain)
         return "-".join((*states[:seat], found[0], *states[seat + 1 :])) if found else None
 
-    def allowed(self, state: str, environment: str) -> Tuple[str, ...]:
+    def allowed(self, state: str, environment: str) -> tuple[str, ...]:
         """The actions that the target allows in these states of target and environment."""
         return tuple(
             action
@@ -254,7 +255,7 @@ class Document:
         states = self.target_states(state)
         return all(each in target.final for each, target in zip(states, self.targets))
 
-    def outcomes(self, behaviour: str, state: str, environment: str, action: str) -> Iterator[Tuple[str, str]]:
+    def outcomes(self, behaviour: str, state: str, environment: str, action: str) -> Iterator[tuple[str, str]]:
         """What may come of a request that is delegated to a service in that state, in that state of the
         environment: its states afterwards with those of the environment."""
         plain = self.delegated(action)
@@ -264,7 +265,7 @@ class Document:
     def has_same_machines(self, other: Document) -> bool:
         """Whether both have the same environment, catalogue and targets, wherever they start."""
 
-        def machines(document: Document) -> List[Any]:
+        def machines(document: Document) -> list[Any]:
             environment = document.environment
             return [
                 (environment.states, environment.actions, set(environment.steps)),
@@ -368,14 +369,14 @@ def flag(value: Any) -> bool:
     return value
 
 
-def listed(value: Any) -> List[Any]:
+def listed(value: Any) -> list[Any]:
     """The value, which has to be a list."""
     if not isinstance(value, list):
         raise TypeError(f"{value!r} is no list")
     return value
 
 
-def texts(value: Any) -> Tuple[str, ...]:
+def texts(value: Any) -> tuple[str, ...]:
     """The value, which has to be a list of texts."""
     return tuple(text(each) for each in listed(value))
 
@@ -384,7 +385,7 @@ def _no_number(word: str) -> Any:
     raise ValueError(f"{word} is no JSON")
 
 
-def _in_place(value: Mapping[str, Any], folder: Path) -> Iterator[Tuple[str, Any]]:
+def _in_place(value: Mapping[str, Any], folder: Path) -> Iterator[tuple[str, Any]]:
     """The members of a document, with parts in the place of the names of their files."""
     for name, member in value.items():
         if name in ("environment", "target"):
@@ -416,7 +417,7 @@ def _machine(value: Any, name: str) -> Machine:
     return Machine(name, texts(value["states"]), text(value["start"]), final, steps)
 
 
-def _words(value: Any, count: int) -> Tuple[str, ...]:
+def _words(value: Any, count: int) -> tuple[str, ...]:
     words = texts(value)
     if len(words) != count:
         raise ValueError(f"{value!r} has not {count} items")
@@ -442,7 +443,7 @@ def _check_guard(guard: Any) -> None:
         _check_guard(each)
 
 
-def _unguarded(steps: Sequence[Step]) -> FrozenSet[Tuple[str, str, str, str]]:
+def _unguarded(steps: Sequence[Step]) -> frozenset[tuple[str, str, str, str]]:
     """Steps as a set, with each guard as its text."""
     return frozenset((step.state, json.dumps(step.guard, sort_keys=True), step.action, step.to) for step in steps)
 
@@ -450,9 +451,9 @@ def _unguarded(steps: Sequence[Step]) -> FrozenSet[Tuple[str, str, str, str]]:
 SERVICE_MEMBERS = ("name", "behaviour", "state", "frozen", "rests")
 
 
-def _entry(service: Service, before: Mapping[str, Any]) -> Dict[str, Any]:
+def _entry(service: Service, before: Mapping[str, Any]) -> dict[str, Any]:
     """A service as it stands in a document, with what else stood there before."""
-    entry: Dict[str, Any] = {
+    entry: dict[str, Any] = {
         "name": service.name,
         "behaviour": service.behaviour,
         "state": service.state,
@@ -465,7 +466,7 @@ def _entry(service: Service, before: Mapping[str, Any]) -> Dict[str, Any]:
     return entry
 
 
-def _moved(part: Any, document: Path, name: str) -> Dict[str, str]:
+def _moved(part: Any, document: Path, name: str) -> dict[str, str]:
     """Writes a part into a file beside its document, and gives what stands in its place."""
     file = document.with_name(f"{document.name}.{name}.json")
     whole = _text_of(part)

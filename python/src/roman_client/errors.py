@@ -2,7 +2,8 @@
 
 from __future__ import annotations
 
-from typing import TYPE_CHECKING, Dict, Optional, Sequence, Tuple, Type
+from collections.abc import Sequence
+from typing import TYPE_CHECKING
 
 if TYPE_CHECKING:
     from .notices import Done, Failure
@@ -22,9 +23,9 @@ class SessionOver(RomanError):
     the one that it was given to, and `outcome` what that answered; each is None where it didn't come so
     far."""
 
-    action: Optional[str] = None
-    service: Optional[str] = None
-    outcome: Optional[Tuple[str, str]] = None
+    action: str | None = None
+    service: str | None = None
+    outcome: tuple[str, str] | None = None
 
 
 class ProgramEnded(SessionOver):
@@ -37,8 +38,8 @@ class ProgramEnded(SessionOver):
 
     def __init__(self, status: int, output: Sequence[str], errors: Sequence[str]) -> None:
         self.status = status
-        self.output: Tuple[str, ...] = tuple(output)
-        self.errors: Tuple[str, ...] = tuple(errors)
+        self.output: tuple[str, ...] = tuple(output)
+        self.errors: tuple[str, ...] = tuple(errors)
         said = "; ".join((*self.output, *self.errors))
         super().__init__(f"the program ended with status {status}" + (f": {said}" if said else ""))
 
@@ -93,11 +94,11 @@ class NoComposition(Refusal):
     names of all that are `frozen`. For a session the explanation is None, and `Session.explain` gives it.
     """
 
-    def __init__(self, line: str, reply: str, explanation: Optional[Explanation] = None) -> None:
+    def __init__(self, line: str, reply: str, explanation: Explanation | None = None) -> None:
         super().__init__(line, reply)
         self.explanation = explanation
-        self.failures: Tuple[Failure, ...] = ()
-        self.frozen: Tuple[str, ...] = ()
+        self.failures: tuple[Failure, ...] = ()
+        self.frozen: tuple[str, ...] = ()
 
 
 class NotAllowed(Refusal):
@@ -136,7 +137,7 @@ class Related(Refusal):
     """`error related`: there is a composition from here, so nothing is to be explained."""
 
 
-REFUSALS: Dict[str, Type[Refusal]] = {
+REFUSALS: dict[str, type[Refusal]] = {
     "error line": BadLine,
     "error name": UnknownName,
     "error busy": Busy,
@@ -187,4 +188,4 @@ class StoreFailed(StoreError):
     written with what comes next; `done` is set where it was that a request was served.
     """
 
-    done: Optional[Done] = None
+    done: Done | None = None

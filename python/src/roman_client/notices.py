@@ -2,8 +2,9 @@
 
 from __future__ import annotations
 
+from collections.abc import Callable
 from dataclasses import dataclass
-from typing import Any, Callable, Optional, Tuple, Union
+from typing import Any, Union
 
 from .devices import Call, Verdict
 
@@ -15,7 +16,7 @@ class Failure:
 
     service: str
     action: str
-    error: Optional[BaseException]
+    error: BaseException | None
     outcome: Any
 
     @property
@@ -37,7 +38,7 @@ class Done:
     state: str
     target: str
     environment: str
-    failures: Tuple[Failure, ...]
+    failures: tuple[Failure, ...]
 
 
 @dataclass(frozen=True)
@@ -51,7 +52,7 @@ class Asked:
 class Changed:
     """A change was made between two requests: the words of its line, as `("freeze", "window")`."""
 
-    words: Tuple[str, ...]
+    words: tuple[str, ...]
 
 
 @dataclass(frozen=True)
@@ -62,7 +63,7 @@ class Recovery:
 
     call: Call
     verdict: Verdict
-    done: Optional[Done]
+    done: Done | None
 
 
 @dataclass(frozen=True)

@@ -7,7 +7,7 @@ import selectors
 import subprocess
 import time
 from collections import deque
-from typing import Deque, List, Optional
+from typing import Deque
 
 from .errors import NoReply, ProgramEnded
 from .protocol import Exchange, Start, is_farewell
@@ -16,12 +16,12 @@ from .protocol import Exchange, Start, is_farewell
 class Pipes:
     """A program that was started. No call waits for one that has died."""
 
-    def __init__(self, start: Start, timeout: Optional[float]) -> None:
+    def __init__(self, start: Start, timeout: float | None) -> None:
         self._timeout = timeout
-        self._until: Optional[float] = None
+        self._until: float | None = None
         self._lines: Deque[str] = deque()
         self._begun = bytearray()
-        self._ended: Optional[ProgramEnded] = None
+        self._ended: ProgramEnded | None = None
         self._errors: Deque[bytes] = deque(maxlen=64)
         self.process = subprocess.Popen(
             start.words,
@@ -40,7 +40,7 @@ class Pipes:
             os.set_blocking(stream.fileno(), False)
             self._watch.register(stream, selectors.EVENT_READ)
 
-    def exchange(self, exchange: Exchange) -> List[str]:
+    def exchange(self, exchange: Exchange) -> list[str]:
         """Sends a line, and reads its whole reply. The program is ended where that fails, since a reply
         that was half read can't be told from the next one."""
         if self._ended is not None:
@@ -171,5 +171,5 @@ class Pipes:
         except (BlockingIOError, ValueError, OSError):
             return
 
-    def _error_lines(self) -> List[str]:
+    def _error_lines(self) -> list[str]:
         return b"".join(self._errors).decode(errors="replace").splitlines()[-16:]

@@ -4,8 +4,9 @@ from __future__ import annotations
 
 import json
 import os
+from collections.abc import Callable, Iterable, Mapping, Sequence
 from dataclasses import dataclass
-from typing import Callable, Dict, Iterable, Mapping, NamedTuple, Sequence, Tuple, Union
+from typing import NamedTuple, Union
 
 from .documents import PathLike
 
@@ -16,7 +17,7 @@ class Choice:
     and the behaviour of each service."""
 
     action: str
-    offered: Tuple[str, ...]
+    offered: tuple[str, ...]
     behaviours: Mapping[str, str]
 
 
@@ -47,11 +48,11 @@ class LeastCost:
     A cost is given for a behaviour and an action, and is 0 where none is.
     """
 
-    def __init__(self, costs: Iterable[Sequence[Union[str, int]]]) -> None:
+    def __init__(self, costs: Iterable[Sequence[str | int]]) -> None:
         """From a table of items `[behaviour, action, cost]`, the names and a whole number from 0 to
         1,000,000. Raises ValueError for an item of another form, and for a second one with both names,
         as `advise` refuses them. Names aren't looked up in a document."""
-        self.costs: Dict[Tuple[str, str], int] = {}
+        self.costs: dict[tuple[str, str], int] = {}
         """What the table says of a behaviour and an action."""
         for item in costs:
             if not isinstance(item, Sequence):

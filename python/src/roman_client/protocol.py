@@ -11,9 +11,10 @@ import logging
 import os
 import re
 import tempfile
+from collections.abc import Callable, Generator, Mapping, Sequence
 from dataclasses import dataclass
 from pathlib import Path
-from typing import Any, Callable, Generator, Generic, List, Mapping, Optional, Sequence, Tuple, TypeVar, Union
+from typing import Any, Generic, TypeVar, Union
 
 from .documents import Document, DocumentError, PathLike, ShortForm
 from .errors import REFUSALS, ProgramEnded, UnexpectedReply
@@ -44,9 +45,9 @@ class Event(Generic[Value]):
     """A line of a session. `value` gives the value of its reply, or raises ValueError or IndexError. A reply
     of several lines begins with the word `opens`, and ends with the line `end`."""
 
-    words: Tuple[str, ...]
+    words: tuple[str, ...]
     value: Callable[[Sequence[str]], Value]
-    opens: Optional[str] = None
+    opens: str | None = None
     changes: bool = False
 
     @property
@@ -59,7 +60,7 @@ class Event(Generic[Value]):
         return line
 
 
-def _words(first: str, count: Optional[int], lines: Sequence[str]) -> List[str]:
+def _words(first: str, count: int | None, lines: Sequence[str]) -> list[str]:
     """The words of a reply of one line that begins with that one, and has so many."""
     words = lines[0].split()
     if words[:1] != [first] or (count is not None and len(words) != count):
@@ -177,8 +178,8 @@ class Effect:
 class Start(Effect):
     """Start a program, and end the one before. Gives None."""
 
-    words: Tuple[str, ...]
-    folder: Optional[PathLike]
+    words: tuple[str, ...]
+    folder: PathLike | None
 
 
 @dataclass(frozen=True)
@@ -187,7 +188,7 @@ class Exchange(Effect):
     `NoReply`."""
 
     data: bytes
-    opens: Optional[str]
+    opens: str | None
 
     def is_long(self, first: str) -> bool:
         """Whether a reply with this first line goes on up to the line `end`."""
@@ -225,7 +226,7 @@ def is_farewell(line: str) -> bool:
 class Conversation:
     """What a session knows and does, whatever the transport."""
 
-    def __init__(self, system: PathLike, program: Program, folder: Optional[PathLike], longest: int) -> None:
+    def __init__(self, system: PathLike, program: Program, folder: PathLike | None, longest: int) -> None:
         self.words = (program,) if isinstance(program, str) else tuple(program)
         self.system = os.fspath(system)
         self.folder = folder
@@ -233,12 +234,12 @@ class Conversation:
         self.sent = 0
         """How many bytes the present program was sent."""
         self.changes = 0
-        self.request: Optional[str] = None
+        self.request: str | None = None
         """The action that is requested, while a request is open."""
-        self.service: Optional[str] = None
+        self.service: str | None = None
         """The service that was used for it, once it is."""
-        self.document: Optional[Document] = None
-        self.unread: Optional[DocumentError] = None
+        self.document: Document | None = None
+        self.unread: DocumentError | None = None
         """Why the document couldn't be read."""
 
     def start(self) -> Steps[Report]:
@@ -315,7 +316,7 @@ class Conversation:
     def _sent(self, event: Event[Value], data: bytes) -> Steps[Value]:
         """Sends a line as these bytes, and gives the value of the reply."""
         self.sent += len(data)
-        lines: List[str] = yield Exchange(data, event.opens)
+        lines: list[str] = yield Exchange(data, event.opens)
         LOG.debug("%s: %s", data, lines[0])
         refusal = REFUSALS.get(lines[0])
         if refusal is not None:

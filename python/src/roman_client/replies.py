@@ -2,8 +2,8 @@
 
 from __future__ import annotations
 
+from collections.abc import Sequence
 from dataclasses import dataclass
-from typing import Dict, List, Optional, Sequence, Tuple
 
 
 @dataclass(frozen=True)
@@ -11,7 +11,7 @@ class Offer:
     """The services that may serve the request for an action, each without a dead end."""
 
     action: str
-    services: Tuple[str, ...]
+    services: tuple[str, ...]
 
 
 @dataclass(frozen=True)
@@ -61,9 +61,9 @@ class Report:
     environment: str
     target: str
     final: bool
-    services: Tuple[Service, ...]
+    services: tuple[Service, ...]
     composition: bool
-    offers: Dict[str, Tuple[str, ...]]
+    offers: dict[str, tuple[str, ...]]
 
 
 @dataclass(frozen=True)
@@ -75,7 +75,7 @@ class Answer:
     """
 
     service: str
-    outcome: Optional[Tuple[str, str]]
+    outcome: tuple[str, str] | None
 
 
 @dataclass(frozen=True)
@@ -89,9 +89,9 @@ class Lost:
 
     target: str
     environment: str
-    states: Tuple[str, ...]
-    request: Optional[str]
-    answers: Tuple[Answer, ...]
+    states: tuple[str, ...]
+    request: str | None
+    answers: tuple[Answer, ...]
 
 
 @dataclass(frozen=True)
@@ -99,7 +99,7 @@ class Explanation:
     """Why a pair isn't related: each entry is lost by those before it alone, and the last one is the
     present pair."""
 
-    entries: Tuple[Lost, ...]
+    entries: tuple[Lost, ...]
 
     @property
     def present(self) -> Lost:
@@ -131,9 +131,9 @@ def report_of(lines: Sequence[str]) -> Report:
         "target",
     ) or finality not in ("final", "running"):
         raise ValueError("no report")
-    services: List[Service] = []
-    composition: Optional[bool] = None
-    offers: Dict[str, Tuple[str, ...]] = {}
+    services: list[Service] = []
+    composition: bool | None = None
+    offers: dict[str, tuple[str, ...]] = {}
     for words in rest[4:-1]:
         if words[0] == "service" and composition is None:
             _, name, behaviour, state, readiness, *loose = words
@@ -160,7 +160,7 @@ def report_of(lines: Sequence[str]) -> Report:
 
 def explanation_of(lines: Sequence[str]) -> Explanation:
     """The explanation that these lines are, the last of which is `end`. ValueError where they are none."""
-    entries: List[Lost] = []
+    entries: list[Lost] = []
     for line in lines[:-1]:
         words = line.split()
         if line.startswith("lost "):

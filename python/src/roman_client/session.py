@@ -4,7 +4,7 @@ from __future__ import annotations
 
 import threading
 from types import TracebackType
-from typing import Any, Optional, Type
+from typing import Any
 
 from . import protocol
 from .documents import PathLike
@@ -37,8 +37,8 @@ class Session:
         system: PathLike,
         *,
         program: Program = "roman",
-        folder: Optional[PathLike] = None,
-        timeout: Optional[float] = None,
+        folder: PathLike | None = None,
+        timeout: float | None = None,
         longest: int = LONGEST,
     ) -> None:
         """Starts the program on a document, and waits for its first report.
@@ -57,8 +57,8 @@ class Session:
         snapshot: Snapshot,
         *,
         program: Program = "roman",
-        folder: Optional[PathLike] = None,
-        timeout: Optional[float] = None,
+        folder: PathLike | None = None,
+        timeout: float | None = None,
         longest: int = LONGEST,
     ) -> Session:
         """A session that goes on from a snapshot, with the request that was open there."""
@@ -67,10 +67,10 @@ class Session:
         session._begin(timeout, session.core.resume(snapshot))
         return session
 
-    def _begin(self, timeout: Optional[float], opening: Steps[Report]) -> None:
+    def _begin(self, timeout: float | None, opening: Steps[Report]) -> None:
         self._timeout = timeout
         self._turn = threading.RLock()
-        self._pipes: Optional[Pipes] = None
+        self._pipes: Pipes | None = None
         try:
             self.opening: Report = self.run(opening)
             """The first report of the session."""
@@ -155,7 +155,7 @@ class Session:
         return self.core.changes
 
     @property
-    def status(self) -> Optional[int]:
+    def status(self) -> int | None:
         """The program's status, or None where it is still running."""
         return self._running().process.poll()
 
@@ -178,9 +178,9 @@ class Session:
 
     def __exit__(
         self,
-        kind: Optional[Type[BaseException]],
-        error: Optional[BaseException],
-        trace: Optional[TracebackType],
+        kind: type[BaseException] | None,
+        error: BaseException | None,
+        trace: TracebackType | None,
     ) -> None:
         self.close()
 

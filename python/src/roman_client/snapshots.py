@@ -5,7 +5,7 @@ from __future__ import annotations
 import json
 from dataclasses import dataclass
 from pathlib import Path
-from typing import Any, Dict, Optional
+from typing import Any
 
 from .documents import Document, DocumentError, PathLike
 
@@ -16,10 +16,10 @@ class Snapshot:
     service that was used for it, each None where there is none."""
 
     document: Document
-    request: Optional[str] = None
-    service: Optional[str] = None
+    request: str | None = None
+    service: str | None = None
 
-    def to_json(self) -> Dict[str, Any]:
+    def to_json(self) -> dict[str, Any]:
         """The snapshot as JSON, for `of_json`."""
         return {"document": self.document.value, "request": self.request, "service": self.service}
 

@@ -9,8 +9,9 @@ import sys
 import tempfile
 import time
 import unittest
+from collections.abc import AsyncIterator, Awaitable, Callable
 from contextlib import asynccontextmanager
-from typing import Any, AsyncIterator, Awaitable, Callable, Dict, List, Optional, Tuple
+from typing import Any
 
 import roman_client as roman
 from roman_client import NOT_DONE, Verdict, aio, protocol
@@ -18,7 +19,7 @@ from roman_client import NOT_DONE, Verdict, aio, protocol
 from . import PROGRAM, copy_store, sample
 from .test_pipes import BEGIN, LONG, OPENING
 
-States = Tuple[str, str]
+States = tuple[str, str]
 
 REQUIRED = inspect.Parameter.empty
 
@@ -42,7 +43,7 @@ def lamp(**words: Any) -> aio.Session:
 
 
 @asynccontextmanager
-async def played(code: str, timeout: Optional[float] = None) -> AsyncIterator[aio.Session]:
+async def played(code: str, timeout: float | None = None) -> AsyncIterator[aio.Session]:
     """A session with a program in Python that reads the first line and writes a first report. It has all the
     time that it needs for that."""
     async with aio.Session("system", program=[sys.executable, "-c", BEGIN + code]) as session:
@@ -194,7 +195,7 @@ class Dispatchers(unittest.IsolatedAsyncioTestCase):
             await session.join(f"l{number}", "lamp", "off")
 
     async def test_requests(self) -> None:
-        told: List[roman.Failure] = []
+        told: list[roman.Failure] = []
         async with lamp() as session:
             await self.lamps(session, 2)
             async with aio.Dispatcher(session, {"l1": broken, "l2": works}, on_failure=told.append) as dispatcher:
@@ -222,7 +223,7 @@ class Dispatchers(unittest.IsolatedAsyncioTestCase):
         async def back(service: str) -> bool:
             return True
 
-        both: List[Tuple[aio.Policy, aio.Back]] = [
+        both: list[tuple[aio.Policy, aio.Back]] = [
             (last, back),
             (lambda choice: "l2", lambda service: True),
         ]
@@ -235,7 +236,7 @@ class Dispatchers(unittest.IsolatedAsyncioTestCase):
                     self.assertEqual((await dispatcher.request("on")).service, "l2")
 
     async def test_deadlines(self) -> None:
-        ended: List[str] = []
+        ended: list[str] = []
 
         async def hangs(action: str) -> States:
             try:
@@ -247,7 +248,7 @@ class Dispatchers(unittest.IsolatedAsyncioTestCase):
         works_late: States = ("on", "e")
         async with lamp() as session:
             await self.lamps(session, 2)
-            devices: Dict[str, Any] = {"l1": aio.device(hangs, timeout=0.1), "l2": works}
+            devices: dict[str, Any] = {"l1": aio.device(hangs, timeout=0.1), "l2": works}
             async with aio.Dispatcher(session, devices) as dispatcher:
                 done = await dispatcher.request("on")
                 self.assertEqual(done.service, "l2")
@@ -265,7 +266,7 @@ class Dispatchers(unittest.IsolatedAsyncioTestCase):
             await go_on.wait()
             return await works(action)
 
-        posted: List[Any] = []
+        posted: list[Any] = []
         async with lamp() as session:
             await self.lamps(session, 2)
             async with aio.Dispatcher(session, {"l1": waits, "l2": works}) as dispatcher:
@@ -315,7 +316,7 @@ class Dispatchers(unittest.IsolatedAsyncioTestCase):
             os.kill(session.pid, signal.SIGKILL)
             return await works(action)
 
-        notices: List[roman.Notice] = []
+        notices: list[roman.Notice] = []
         with tempfile.TemporaryDirectory() as folder:
             store = f"{folder}/journal"
             async with lamp() as session:
@@ -364,7 +365,7 @@ class Dispatchers(unittest.IsolatedAsyncioTestCase):
     async def test_a_cancelled_request_while_the_journal_is_written(self) -> None:
         """Wherever it is cut off, the next request goes on from what the journal says. Only where its device
         was asked it may be in doubt; then it is settled by hand."""
-        asked: List[str] = []
+        asked: list[str] = []
 
         async def is_asked(action: str) -> States:
             asked.append(action)
@@ -406,7 +407,7 @@ class Twins(unittest.TestCase):
     """The two drivers stand as twins, since a call that is awaited can't be written with one that isn't."""
 
     def test_both_have_the_same_calls_with_the_same_words(self) -> None:
-        twins: Tuple[Tuple[type, type], ...] = (
+        twins: tuple[tuple[type, type], ...] = (
             (roman.Session, aio.Session),
             (roman.Dispatcher, aio.Dispatcher),
         )
@@ -425,9 +426,9 @@ class Twins(unittest.TestCase):
             self.assertEqual(found - awaited, at_once & found)
 
 
-def calls(kind: type) -> Dict[str, Any]:
+def calls(kind: type) -> dict[str, Any]:
     """The public names of a class, with the words of those that are called."""
-    found: Dict[str, Any] = {}
+    found: dict[str, Any] = {}
     for name, value in vars(kind).items():
         if name == "__init__" or not name.startswith("_"):
             called = getattr(kind, name)

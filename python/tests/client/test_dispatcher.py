@@ -11,16 +11,17 @@ import tempfile
 import threading
 import time
 import unittest
+from collections.abc import Callable
 from concurrent.futures import Future, ThreadPoolExecutor
 from pathlib import Path
-from typing import Any, Callable, Dict, List, Tuple
+from typing import Any, List
 
 import roman_client as roman
 from roman_client import Dispatcher, LeastCost, Session, protocol
 
 from . import PROGRAM, TOP, sample
 
-States = Tuple[str, str]
+States = tuple[str, str]
 
 PATIENCE = 120.0
 """How many seconds are waited for what has to come: the machine may be very busy."""
@@ -57,7 +58,7 @@ class Dispatching(unittest.TestCase):
             self.assertEqual(dispatcher.request("off").target, "off")
 
     def test_a_failure_goes_to_another(self) -> None:
-        told: List[roman.Failure] = []
+        told: list[roman.Failure] = []
         with lamps(2) as session:
             dispatcher = Dispatcher(session, {"l1": broken, "l2": works}, on_failure=told.append)
             done = dispatcher.request("on")
@@ -71,7 +72,7 @@ class Dispatching(unittest.TestCase):
             self.assertFalse(session.report().services[0].frozen)
 
     def test_impossible_outcomes(self) -> None:
-        outcomes: List[Any] = [
+        outcomes: list[Any] = [
             ("off", "e"),
             ("lit", "e"),
             ("on", "night"),
@@ -103,8 +104,8 @@ class Dispatching(unittest.TestCase):
             self.assertEqual(dispatcher.failed, {"l1", "l2"})
 
     def test_services_come_back(self) -> None:
-        where: Dict[str, object] = {"l1": False}
-        devices: Dict[str, Callable[[str], States]] = {"l1": broken, "l2": works}
+        where: dict[str, object] = {"l1": False}
+        devices: dict[str, Callable[[str], States]] = {"l1": broken, "l2": works}
         with lamps(2) as session:
             dispatcher = Dispatcher(
                 session,
@@ -164,9 +165,9 @@ class Dispatching(unittest.TestCase):
                 self.assertEqual(dispatcher.request("on").service, "l1")
 
     def test_costs_that_are_none(self) -> None:
-        good: List[Any] = [["lamp", "on", 0], ("lamp", "off", 1_000_000), ["spare", "on", 1]]
+        good: list[Any] = [["lamp", "on", 0], ("lamp", "off", 1_000_000), ["spare", "on", 1]]
         LeastCost(good)
-        bad: List[Any] = [
+        bad: list[Any] = [
             ["lamp", "dim", 1.9],
             ["lamp", "dim", 1.0],
             ["lamp", "dim", -5],
@@ -270,7 +271,7 @@ class Surviving(unittest.TestCase):
     def test_frozen_services_are_asked_whether_they_are_back(self) -> None:
         with lamps(2) as session:
             session.freeze("l1")
-            asked: List[str] = []
+            asked: list[str] = []
 
             def back(service: str) -> bool:
                 asked.append(service)
@@ -285,7 +286,7 @@ class Surviving(unittest.TestCase):
             self.assertEqual(asked, ["l1"])
 
     def test_errors_of_back_count_as_not_back(self) -> None:
-        answers: List[Any] = [OSError("no route"), "lit", "", 3, b"on", None]
+        answers: list[Any] = [OSError("no route"), "lit", "", 3, b"on", None]
 
         def back(service: str) -> Any:
             answer = answers.pop()
@@ -345,7 +346,7 @@ class Surviving(unittest.TestCase):
 
     def test_with_a_store_the_request_goes_on(self) -> None:
         with lamps(2) as session, tempfile.TemporaryDirectory() as folder:
-            notices: List[roman.Notice] = []
+            notices: list[roman.Notice] = []
 
             def kills(action: str) -> States:
                 os.kill(session.pid, signal.SIGKILL)
@@ -400,7 +401,7 @@ class Surviving(unittest.TestCase):
             jump = dispatcher.post(protocol.jump("l2", "on"))
             unknown = dispatcher.post(protocol.jump("l2", "lit"))
             time.sleep(0.05)
-            waiting: List["Future[Any]"] = [request, freeze, jump, unknown]
+            waiting: list["Future[Any]"] = [request, freeze, jump, unknown]
             self.assertFalse(any(each.done() for each in waiting))
             go_on.set()
             self.assertEqual(request.result(PATIENCE).service, "l1")
@@ -413,7 +414,7 @@ class Surviving(unittest.TestCase):
 
     def test_changes_of_a_device_itself(self) -> None:
         """They come before the next attempt at the request, or behind it."""
-        told: List[Any] = []
+        told: list[Any] = []
 
         def moves(action: str) -> States:
             told.append(dispatcher.post(protocol.jump("l2", "on")))
@@ -433,7 +434,7 @@ class Surviving(unittest.TestCase):
                     dispatcher.post(protocol.do("on")).result()
 
     def test_requests_of_several_threads_take_turns(self) -> None:
-        at_work: List[int] = []
+        at_work: list[int] = []
 
         def works_alone(action: str) -> States:
             at_work.append(1)
@@ -479,7 +480,7 @@ class Surviving(unittest.TestCase):
 
     def test_several_targets(self) -> None:
         """A device is asked for the plain action; a function is told which target asks."""
-        asked: List[roman.Call] = []
+        asked: list[roman.Call] = []
 
         class Lamp(roman.Device):
             def serve(self, call: roman.Call) -> States:

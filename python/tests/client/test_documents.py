@@ -5,8 +5,9 @@ import os
 import random
 import tempfile
 import unittest
+from collections.abc import Callable
 from pathlib import Path
-from typing import Any, Callable, List
+from typing import Any
 
 import roman_client as roman
 from roman_client import Document, DocumentError, Session
@@ -48,7 +49,7 @@ class Reading(unittest.TestCase):
         )
         self.assertEqual(home.target_after("quiet", "day", "brighten"), "bright")
         self.assertEqual(home.target_after("quiet", "day", "boil"), None)
-        calls: List[Callable[[], object]] = [
+        calls: list[Callable[[], object]] = [
             lambda: home.target_after("loud", "day", "boil"),
             lambda: home.target_after("quiet", "day", "fry"),
             lambda: home.delegated("fry"),
@@ -222,7 +223,7 @@ def happens(session: Session, document: Document, chance: random.Random) -> None
     kind = chance.randrange(6)
     behaviour = chance.choice(sorted(document.behaviours))
     state = chance.choice(document.behaviours[behaviour].states)
-    names: List[str] = [service.name for service in services]
+    names: list[str] = [service.name for service in services]
     if kind == 0 and len(names) < 6:
         fresh = f"s{session.changes}"
         session.join(fresh, behaviour, state, loose=chance.random() < 0.5)

@@ -11,7 +11,6 @@ import time
 import unittest
 from contextlib import suppress
 from pathlib import Path
-from typing import List, Tuple
 
 from roman_client import Dispatcher, Document, Session
 
@@ -78,7 +77,7 @@ class Kills(unittest.TestCase):
         errors = running.communicate(timeout=600)[1]
         self.assertEqual((running.returncode, errors), (0, ""))
 
-    def kill_often(self, kills: int, chance: random.Random) -> Tuple[int, List[int]]:
+    def kill_often(self, kills: int, chance: random.Random) -> tuple[int, list[int]]:
         """Kills the dispatcher so often, each time after some more requests and a moment. There are more to
         serve whenever it has served them all. Gives how many there are, and how many it had served at each kill."""
         count, reached = 150, []

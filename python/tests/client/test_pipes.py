@@ -5,7 +5,6 @@ import signal
 import sys
 import time
 import unittest
-from typing import Optional
 from unittest import mock
 
 import roman_client as roman
@@ -31,7 +30,7 @@ say("{OPENING}")
 """The beginning of a program in Python that reads the first line and writes a first report."""
 
 
-def session(code: str, timeout: Optional[float] = None) -> Session:
+def session(code: str, timeout: float | None = None) -> Session:
     """A session with a program that begins so. It has all the time that it needs for its first report."""
     talk = Session("system", program=[sys.executable, "-c", BEGIN + code])
     assert talk._pipes is not None

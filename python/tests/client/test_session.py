@@ -6,9 +6,9 @@ import signal
 import sys
 import tempfile
 import unittest
+from collections.abc import Callable
 from concurrent.futures import ThreadPoolExecutor
 from pathlib import Path
-from typing import Callable, List, Tuple, Type
 from unittest import mock
 
 import roman_client as roman
@@ -92,7 +92,7 @@ class Events(unittest.TestCase):
 
     def test_each_refusal(self) -> None:
         with Session(sample("lamp.json"), program=PROGRAM) as session:
-            refused: List[Tuple[Type[roman.Refusal], Callable[[], object], str]] = [
+            refused: list[tuple[type[roman.Refusal], Callable[[], object], str]] = [
                 (roman.UnknownName, lambda: session.do("dim"), "error name"),
                 (roman.Idle, lambda: session.use("l1"), "error idle"),
                 (roman.NotAllowed, lambda: session.do("off"), "not allowed"),

@@ -10,7 +10,7 @@ import socket
 import socketserver
 import sys
 import threading
-from typing import Any, Dict, List, Tuple
+from typing import Any
 
 from roman_client import (
     NOT_DONE,
@@ -37,11 +37,11 @@ class World:
         self.behaviours = {each.name: each.behaviour for each in document.services}
         self.states = {each.name: each.state for each in document.services}
         self.environment = document.environment.start
-        self.done: Dict[int, Tuple[str, Outcome]] = {}
-        self.played: List[str] = []
-        self.wrong: List[str] = []
+        self.done: dict[int, tuple[str, Outcome]] = {}
+        self.played: list[str] = []
+        self.wrong: list[str] = []
 
-    def answer(self, asked: Dict[str, Any]) -> Any:
+    def answer(self, asked: dict[str, Any]) -> Any:
         """The answer to a call: an outcome, or None where the service fails."""
         with self.lock:
             number, service, action = asked["number"], asked["service"], asked["action"]
@@ -119,7 +119,7 @@ class Remote(Device):
         return NOT_DONE if answer == "not done" else (answer[0], answer[1])
 
 
-def begun(system: str, program: str, folder: str) -> Tuple[Session, Dispatcher]:
+def begun(system: str, program: str, folder: str) -> tuple[Session, Dispatcher]:
     """A dispatcher over the devices. Where the program is killed before there is one, it is begun again."""
     while True:
         try:

@@ -9,7 +9,7 @@ import unittest
 import xml.etree.ElementTree as xml
 from collections import Counter
 from pathlib import Path
-from typing import Any, Dict, List
+from typing import Any
 
 from . import PROGRAM, TOP
 
@@ -29,12 +29,12 @@ def draw(*words: str, text: str = "", **environment: str) -> "subprocess.Complet
     )
 
 
-def nodes(dot: str) -> List[str]:
+def nodes(dot: str) -> list[str]:
     """The names of the nodes of a drawing's text."""
     return [name.strip('"') for name in re.findall(r'^\s*("[^"]*"|\w+) \[', dot, re.M)]
 
 
-def arrows(dot: str) -> List[str]:
+def arrows(dot: str) -> list[str]:
     return [line.split("[")[0].strip().replace('"', "") for line in dot.splitlines() if " -> " in line]
 
 
@@ -44,7 +44,7 @@ def parsed(drawing: str) -> Any:
     return root
 
 
-def titles(root: Any, kind: str) -> List[str]:
+def titles(root: Any, kind: str) -> list[str]:
     """The titles of the clusters, nodes or edges of a drawing."""
     return [group.findtext(SVG + "title") or "" for group in root.iter(SVG + "g") if group.get("class") == kind]
 
@@ -78,11 +78,11 @@ class Systems(unittest.TestCase):
 
     def test_the_marks(self) -> None:
         dot = draw("samples/depot.json", "--dot").stdout.splitlines()
-        (ship,) = [line for line in dot if '"b1 docked" -> "b1 away"' in line]
+        (ship,) = (line for line in dot if '"b1 docked" -> "b1 away"' in line)
         self.assertIn("dashed", ship)
         self.assertIn("[dry]", ship)
         self.assertIn("arrowtail", ship)
-        (load,) = [line for line in dot if '"b0 still" -> "b0 moving"' in line]
+        (load,) = (line for line in dot if '"b0 still" -> "b0 moving"' in line)
         self.assertNotIn("dashed", load)
         self.assertNotIn("arrowtail", load)
         self.assertTrue(any('"b0 still" [' in line and "peripheries=2" in line for line in dot))
@@ -137,7 +137,7 @@ class Systems(unittest.TestCase):
             self.assertIn('"e night" [label="night ?"', dot)
             self.assertIn("error, line 10: &quot;night&quot;".replace("&quot;", '"'), dot)
             path.write_text(home.replace('"states": ["off", "on"]', '"states": ["off", "on", "out"]'), encoding="utf-8")
-            (out,) = [line for line in draw(str(path), "--dot").stdout.splitlines() if '"b1 out" [' in line]
+            (out,) = (line for line in draw(str(path), "--dot").stdout.splitlines() if '"b1 out" [' in line)
             self.assertIn("never comes into", out)
 
     def test_what_can_not_be_drawn(self) -> None:
@@ -258,7 +258,7 @@ class Explanations(unittest.TestCase):
             ).stdout
             dot = draw(str(path), "--explanation", "-", "--all", "--dot", text=explained).stdout
         self.assertEqual(len([line for line in explained.splitlines() if "f3 may answer" in line]), 1)
-        (answer,) = [line for line in dot.splitlines() if "off → stuck" in line and "->" in line]
+        (answer,) = (line for line in dot.splitlines() if "off → stuck" in line and "->" in line)
         self.assertIn("f0 or f1 or f2 or f3", answer)
 
     def test_several_targets(self) -> None:
@@ -335,7 +335,7 @@ RECIPES = ("jam", "retry", "sensor", "anyone", "away", "gripper", "shared")
 
 class Guide(unittest.TestCase):
     def test_the_drawings_of_the_guide_are_those_of_now(self) -> None:
-        drawings: Dict[str, List[str]] = {
+        drawings: dict[str, list[str]] = {
             "workshop.svg": ["samples/workshop.json"],
             "workshop-lost.svg": [
                 "samples/workshop.json",

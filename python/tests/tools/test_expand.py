@@ -7,8 +7,9 @@ import subprocess
 import sys
 import tempfile
 import unittest
+from collections.abc import Callable
 from pathlib import Path
-from typing import Any, Callable, Dict, List, Tuple
+from typing import Any
 
 from hypothesis import given, settings
 from hypothesis import strategies as st
@@ -50,7 +51,7 @@ class Folder(unittest.TestCase):
         self.addCleanup(os.chdir, os.getcwd())
         os.chdir(folder.name)
 
-    def expand(self, document: Dict[str, Any]) -> Any:
+    def expand(self, document: dict[str, Any]) -> Any:
         """The plain document of a short one."""
         Path("s.json").write_text(json.dumps({"roman": "short", **document}), encoding="utf-8")
         return expanded("s.json")
@@ -144,7 +145,7 @@ class Environments(Folder):
         step = {"on": "a", "when": "s", "to": "t"}
         one = [["s", "a", "t"], ["t", "b", "t"], ["s", "b", "s"]]
         both = [*one, ["t", "a", "t"]]
-        cases: List[Tuple[Dict[str, Any], List[List[str]]]] = [
+        cases: list[tuple[dict[str, Any], list[list[str]]]] = [
             ({"steps": [step, ["t", "b", "t"], {"on": "b", "from": "s"}]}, one),
             ({"steps": [{**step, "otherwise": "stays"}, {"on": "b"}]}, both),
             ({"steps": [step], "otherwise": "stays"}, both),
@@ -185,7 +186,7 @@ class Guards(Folder):
         states = [
             f"{time}-{who}-{tap}" for time in ("day", "night") for who in ("home", "away") for tap in ("home", "hot")
         ]
-        cases: List[Tuple[Any, Callable[[str, str, str], bool]]] = [
+        cases: list[tuple[Any, Callable[[str, str, str], bool]]] = [
             ("time = day", lambda t, w, p: t == "day"),
             ("day", lambda t, w, p: t == "day"),
             ("time != day", lambda t, w, p: t != "day"),
@@ -219,7 +220,7 @@ class Guards(Folder):
 
 
 class Machines(Folder):
-    def behaviours(self, *behaviours: Any, services: Any = ()) -> Tuple[Any, Any]:
+    def behaviours(self, *behaviours: Any, services: Any = ()) -> tuple[Any, Any]:
         target = {"steps": [["x", "a", "x"]]}
         document = self.expand({"behaviours": list(behaviours), "services": list(services), "target": target})
         return document["behaviours"], document["services"]
@@ -250,7 +251,7 @@ class Machines(Folder):
 
     def test_the_least_version(self) -> None:
         machine = {"steps": [["x", "a", "x"]]}
-        cases: List[Tuple[int, Dict[str, Any]]] = [
+        cases: list[tuple[int, dict[str, Any]]] = [
             (1, {"services": [{"behaviour": "m", "rests": True}], "target": machine}),
             (2, {"services": [{"behaviour": "m", "rests": False}], "target": machine}),
             (3, {"services": [{"behaviour": "m"}], "targets": [{"name": name, **machine} for name in "uv"]}),

@@ -7,8 +7,8 @@ import subprocess
 import sys
 import tempfile
 import unittest
+from collections.abc import Iterator
 from pathlib import Path
-from typing import Iterator, List, Set, Tuple
 
 from hypothesis import given
 
@@ -19,7 +19,7 @@ from roman_tools.lint import all_findings, lint
 from . import PROGRAM, TOP
 from .broken import Broken, broken_documents, many_documents
 
-Row = Tuple[str, str, str]
+Row = tuple[str, str, str]
 """A refusal without its document, a text of the sample, and what stands in its place: the faulty word between
 « and »."""
 
@@ -229,7 +229,7 @@ KINDS = {
 """All refusals of the format: of each part the kinds, then the list."""
 
 
-def all_refusals() -> Set[Tuple[str, str, str]]:
+def all_refusals() -> set[tuple[str, str, str]]:
     """The kind, part and list of each refusal of the format."""
     found = set()
     for part, groups in KINDS.items():
@@ -256,10 +256,10 @@ class Folder(unittest.TestCase):
         done = subprocess.run([PROGRAM, "synth", "s.json"], capture_output=True, text=True, timeout=60, check=False)
         return done.stdout.rstrip("\n") if done.returncode == 3 else ""
 
-    def errors(self) -> List[Finding]:
+    def errors(self) -> list[Finding]:
         return [each for each in lint("s.json") if each.level is Level.ERROR]
 
-    def warnings(self, text: str) -> List[str]:
+    def warnings(self, text: str) -> list[str]:
         """The warnings of a document that the program takes: the word that is marked, and the message."""
         self.write("s.json", text)
         self.assertEqual((self.said(), self.errors()), ("", []))
@@ -273,7 +273,7 @@ def marked(finding: Finding) -> str:
 class Refusals(Folder):
     """Each refusal of the format is found first, at its place."""
 
-    seen: Set[Tuple[str, str, str]]
+    seen: set[tuple[str, str, str]]
 
     def row(self, text: str, row: Row, document: str = "s.json") -> None:
         line, old, new = row
@@ -342,7 +342,7 @@ class Refusals(Folder):
     def test_tabs_ends_of_lines_and_letters(self) -> None:
         text = '{\r\n\t"note": "é→𝄞",\t"roman": 4\r\n}'
         self.write("s.json", text)
-        (version,) = [each for each in self.errors() if marked(each) == "4"]
+        (version,) = (each for each in self.errors() if marked(each) == "4")
         shown = version.shown()
         self.assertTrue(shown[0].startswith("s.json:2:26: error: "), shown[0])
         self.assertEqual(shown[1], '  \t"note": "é→𝄞",\t"roman": 4')
@@ -513,7 +513,7 @@ class Command(Folder):
         self.write("s.json", self.wrong)
         self.write("warned.json", sample("home").replace('"roman": 1', '"roman": 1, "limits": 1'))
         self.write("good.json", sample("home"))
-        cases: List[Tuple[int, List[str]]] = [
+        cases: list[tuple[int, list[str]]] = [
             (3, ["s.json"]),
             (3, ["--strict", "s.json"]),
             (0, ["warned.json"]),

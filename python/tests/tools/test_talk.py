@@ -8,7 +8,6 @@ import tempfile
 import time
 import unittest
 from pathlib import Path
-from typing import List
 
 from . import PROGRAM, TOP
 
@@ -40,8 +39,8 @@ class Echo(unittest.TestCase):
                 session = file.read_text(encoding="utf-8")
                 done = self.echo(f"samples/{file.stem}.json", session)
                 self.assertEqual((done.returncode, done.stderr), (0, ""))
-                left: List[str] = []
-                right: List[str] = []
+                left: list[str] = []
+                right: list[str] = []
                 for line in done.stdout.splitlines():
                     if not line or line.startswith("#"):
                         left.append(line)

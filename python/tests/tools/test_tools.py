@@ -3,14 +3,14 @@
 import os
 import subprocess
 import unittest
-from typing import Any, Tuple
+from typing import Any
 
 from . import PROGRAM, TOP
 
 TOOLS = ("roman-lint", "roman-expand", "roman-draw", "roman-talk", "roman-mend")
 
 
-def tool(name: str, system: str, output: Any) -> Tuple[int, str]:
+def tool(name: str, system: str, output: Any) -> tuple[int, str]:
     """The status of a tool, and what it says beside its output."""
     done = subprocess.run(
         [str(TOP / "tools" / name), system],

@@ -2,7 +2,8 @@
 
 from __future__ import annotations
 
-from typing import Awaitable, Callable, Optional, Union
+from collections.abc import Awaitable, Callable
+from typing import Union
 
 from ..devices import Call, Outcome, Told
 from ..policies import Choice, Chosen
@@ -16,7 +17,7 @@ class Device:
     it may safely be asked twice for one thing, and `late_is_doubt` what it says there.
     """
 
-    timeout: Optional[float] = None
+    timeout: float | None = None
     repeatable: bool = False
     late_is_doubt: bool = False
 
@@ -43,8 +44,8 @@ class FunctionDevice(Device):
     def __init__(
         self,
         act: Act,
-        state: Optional[State],
-        timeout: Optional[float],
+        state: State | None,
+        timeout: float | None,
         repeatable: bool,
         late_is_doubt: bool = False,
     ) -> None:
@@ -64,8 +65,8 @@ class FunctionDevice(Device):
 def device(
     act: Act,
     *,
-    state: Optional[State] = None,
-    timeout: Optional[float] = None,
+    state: State | None = None,
+    timeout: float | None = None,
     repeatable: bool = False,
     late_is_doubt: bool = False,
 ) -> Device:
@@ -74,7 +75,7 @@ def device(
     return FunctionDevice(act, state, timeout, repeatable, late_is_doubt)
 
 
-def as_device(given: Union[Device, Act]) -> Device:
+def as_device(given: Device | Act) -> Device:
     """A device, where a coroutine function is given as one."""
     return given if isinstance(given, Device) else FunctionDevice(given, None, None, False)
 

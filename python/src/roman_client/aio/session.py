@@ -3,8 +3,9 @@
 from __future__ import annotations
 
 import asyncio
+from collections.abc import Callable
 from types import TracebackType
-from typing import Any, Callable, Optional, Type
+from typing import Any
 
 from .. import protocol
 from ..documents import PathLike
@@ -27,15 +28,15 @@ class Session:
         system: PathLike,
         *,
         program: Program = "roman",
-        folder: Optional[PathLike] = None,
-        timeout: Optional[float] = None,
+        folder: PathLike | None = None,
+        timeout: float | None = None,
         longest: int = LONGEST,
     ) -> None:
         """For a document. The words are those of `roman_client.Session`; the program starts by `begin`."""
         self.core = Conversation(system, program, folder, longest)
         self._timeout = timeout
-        self._turn: Optional[asyncio.Lock] = None
-        self._streams: Optional[Streams] = None
+        self._turn: asyncio.Lock | None = None
+        self._streams: Streams | None = None
         self._first: Callable[[], Steps[Report]] = self.core.start
         self.opening: Report
         """The first report of the session."""
@@ -46,8 +47,8 @@ class Session:
         snapshot: Snapshot,
         *,
         program: Program = "roman",
-        folder: Optional[PathLike] = None,
-        timeout: Optional[float] = None,
+        folder: PathLike | None = None,
+        timeout: float | None = None,
         longest: int = LONGEST,
     ) -> Session:
         """A session that goes on from a snapshot, with the request that was open there. It starts by `begin`,
@@ -144,7 +145,7 @@ class Session:
         return self.core.changes
 
     @property
-    def status(self) -> Optional[int]:
+    def status(self) -> int | None:
         """The program's status, or None where it is still running."""
         return self._running().process.returncode
 
@@ -167,9 +168,9 @@ class Session:
 
     async def __aexit__(
         self,
-        kind: Optional[Type[BaseException]],
-        error: Optional[BaseException],
-        trace: Optional[TracebackType],
+        kind: type[BaseException] | None,
+        error: BaseException | None,
+        trace: TracebackType | None,
     ) -> None:
         await self.close()
 

@@ -4,7 +4,8 @@ from __future__ import annotations
 
 import asyncio
 from collections import deque
-from typing import Any, Awaitable, Callable, Coroutine, Deque, List, Optional
+from collections.abc import Awaitable, Callable, Coroutine
+from typing import Any, Deque
 
 from ..errors import NoReply, ProgramEnded
 from ..protocol import Effect, Exchange, Start, Steps, Value, is_farewell
@@ -16,15 +17,15 @@ LONGEST_LINE = 16_777_216
 class Streams:
     """A program that was started. No call waits for one that has died."""
 
-    def __init__(self, process: asyncio.subprocess.Process, timeout: Optional[float]) -> None:
+    def __init__(self, process: asyncio.subprocess.Process, timeout: float | None) -> None:
         self.process = process
         self._timeout = timeout
-        self._ended: Optional[ProgramEnded] = None
+        self._ended: ProgramEnded | None = None
         self._errors: Deque[bytes] = deque(maxlen=64)
         self._listening = asyncio.ensure_future(self._listen())
 
     @classmethod
-    async def start(cls, start: Start, timeout: Optional[float]) -> Streams:
+    async def start(cls, start: Start, timeout: float | None) -> Streams:
         """Starts a program."""
         process = await asyncio.create_subprocess_exec(
             *start.words,
@@ -46,7 +47,7 @@ class Streams:
                 return
             self._errors.append(data)
 
-    async def exchange(self, exchange: Exchange) -> List[str]:
+    async def exchange(self, exchange: Exchange) -> list[str]:
         """Sends a line, and reads its whole reply. The program is ended where that fails, since a reply
         that was half read can't be told from the next one; so it is where the call is cancelled."""
         if self._ended is not None:
@@ -57,7 +58,7 @@ class Streams:
             await self.stop()
             raise
 
-    async def _in_time(self, reply: Coroutine[Any, Any, List[str]]) -> List[str]:
+    async def _in_time(self, reply: Coroutine[Any, Any, list[str]]) -> list[str]:
         """A reply within the timeout."""
         try:
             async with asyncio.timeout(self._timeout):
@@ -65,7 +66,7 @@ class Streams:
         except TimeoutError:
             raise NoReply(f"no whole reply within {self._timeout} seconds") from None
 
-    async def _exchange(self, exchange: Exchange) -> List[str]:
+    async def _exchange(self, exchange: Exchange) -> list[str]:
         assert self.process.stdin is not None
         try:
             self.process.stdin.write(exchange.data)
@@ -89,7 +90,7 @@ class Streams:
             raise await self._ending(rest) from None
         return line[:-1].decode(errors="replace")
 
-    async def _ending(self, said: List[str]) -> ProgramEnded:
+    async def _ending(self, said: list[str]) -> ProgramEnded:
         """How the program ended, with what it still said. It is ended where it only closed its output."""
         assert self.process.stdout is not None
         try:
@@ -129,7 +130,7 @@ class Streams:
         self._listening.cancel()
         return status
 
-    def _error_lines(self) -> List[str]:
+    def _error_lines(self) -> list[str]:
         return b"".join(self._errors).decode(errors="replace").splitlines()[-16:]
 
 
