@@ -66,6 +66,11 @@ class Messages(unittest.TestCase):
         return False
 
 
+def threads(process: int) -> int:
+    """How many threads a process has: the kettle has one more for each call."""
+    return len(os.listdir(f"/proc/{process}/task"))
+
+
 class Kettle(unittest.TestCase):
     def test_it_tells_nothing_while_it_acts(self) -> None:
         """Else a home that was killed and begins again would have it act twice."""
@@ -77,8 +82,9 @@ class Kettle(unittest.TestCase):
             self.addCleanup(kettle.kill)
             until(lambda: call(url), "the kettle", (OSError,))
             boils = threading.Thread(target=call, args=(url, {"id": 7, "action": "boil"}))
+            until(lambda: threads(kettle.pid) == 1, "the end of the first call")
             boils.start()
-            time.sleep(1)
+            until(lambda: threads(kettle.pid) == 2, "the call")
             _, told = call(f"{url}?id=7")
             boils.join()
             kettle.kill()
