@@ -794,7 +794,7 @@ class Completion(unittest.TestCase):
 
     def test_roman_live(self) -> None:
         demo = "samples/live/demo/home.toml"
-        for words in ((), ("ask",)):
+        for words in ((), ("ask",), ("history",)):
             with self.subTest(words):
                 usage = run(str(TOP / "tools/roman-live"), *words, "--help").stdout
                 told = set(re.findall(r"(?m)^  (?:-h, )?(--[a-z]+)", usage))

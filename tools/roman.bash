@@ -47,10 +47,11 @@ _roman_live() {
     local word=${COMP_WORDS[COMP_CWORD]} before=${COMP_WORDS[COMP_CWORD - 1]}
     local options="--check --simulate --verbose --help"
     COMPREPLY=()
-    [ "$COMP_CWORD" = 1 ] && COMPREPLY=($(compgen -W ask -- "$word"))
+    [ "$COMP_CWORD" = 1 ] && COMPREPLY=($(compgen -W "ask history" -- "$word"))
     [ "${COMP_WORDS[1]}" = ask ] && options="--key --help"
+    [ "${COMP_WORDS[1]}" = history ] && options="--service --since --json --help"
     case $before:$word in
-        --key:* | *.toml:*) ;;
+        --key:* | --service:* | --since:* | *.toml:*) ;;
         *:-*) COMPREPLY=($(compgen -W "$options" -- "$word")) ;;
         *) _roman_files .toml ;;
     esac

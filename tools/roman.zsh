@@ -35,8 +35,11 @@ _roman_tool() {
 _roman_live() {
     if [[ $words[2] == ask ]]; then
         _arguments '1: :(ask)' '--key[a text that no other request has]:key:' '2:home:_files -g "*.toml"' '3:action:'
-    elif [[ $CURRENT == 2 && $words[2] == a* ]]; then
-        _values command ask
+    elif [[ $words[2] == history ]]; then
+        _arguments '1: :(history)' '--service[show this service alone]:service:' '--since[show what came since]:time:' \
+            '--json[write lines of JSON]' '2:home:_files -g "*.toml"'
+    elif [[ $CURRENT == 2 && $words[2] == [ah]* ]]; then
+        _values command ask history
     else
         _arguments '--check[say what is wrong with the file]' '--simulate[play all devices by hand, on the page]' \
             '--verbose[say each event]' ':home:_files -g "*.toml"'

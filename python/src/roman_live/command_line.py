@@ -15,6 +15,7 @@ from roman_client import RomanError
 
 from .asking import ask
 from .config import HomeFile, HomeFileError
+from .history import as_json, as_text, entries, time_of
 from .home import Home
 from .http_api import Server
 from .mqtt_requests import MqttRequests
@@ -38,7 +39,8 @@ def parser() -> argparse.ArgumentParser:
     words = argparse.ArgumentParser(
         prog="roman-live",
         usage="roman-live [--check] [--simulate] [--verbose] HOME.toml\n"
-        "       roman-live ask [--key KEY] HOME.toml ACTION",
+        "       roman-live ask [--key KEY] HOME.toml ACTION\n"
+        "       roman-live history [--service S] [--since T] [--json] HOME.toml",
         description="Runs the home that HOME.toml describes, until it is ended; or asks a running one for an action.",
     )
     words.add_argument("--check", action="store_true", help="say what is wrong with the file, and ask no device")
@@ -57,6 +59,25 @@ def ask_parser() -> argparse.ArgumentParser:
     return words
 
 
+def history_parser() -> argparse.ArgumentParser:
+    """The words of `history`."""
+    words = argparse.ArgumentParser(
+        prog="roman-live history", description="Shows who asked a home, who served and why, what failed and changed."
+    )
+    words.add_argument("--service", metavar="S", help="show this service alone")
+    words.add_argument("--since", metavar="T", type=time_of, default=0.0, help="show what came since 2026-11-30T14:05")
+    words.add_argument("--json", action="store_true", help="write a line of JSON for each entry")
+    words.add_argument("home", metavar="HOME.toml")
+    return words
+
+
+def show_history(given: argparse.Namespace) -> int:
+    """Writes the history of a home."""
+    for entry in entries(HomeFile.read(given.home), given.service, given.since):
+        print(as_json(entry) if given.json else as_text(entry))
+    return DONE
+
+
 def main(words: Optional[Sequence[str]] = None) -> int:
     """Runs the command that the words name, by default those of the command line, and returns the status."""
     words = sys.argv[1:] if words is None else words
@@ -64,6 +85,8 @@ def main(words: Optional[Sequence[str]] = None) -> int:
         if words[:1] == ["ask"]:
             given = ask_parser().parse_args(words[1:])
             return asyncio.run(ask(HomeFile.read(given.home), given.action, given.key))
+        if words[:1] == ["history"]:
+            return show_history(history_parser().parse_args(words[1:]))
         given = parser().parse_args(words)
         begin_log(logging.INFO if given.verbose else logging.WARNING)
         if given.check:
