@@ -1,5 +1,5 @@
 """The definitions of `specs/`, the types and constants of the sources that they name, and the promises to readers: the
-clauses of `serve`, those of the outside that it is called with, and the laws."""
+clauses of `serve` and of the program's `run`, those of the outside that they are called with, and the laws."""
 
 import hashlib
 import re
@@ -24,7 +24,7 @@ NAME = re.compile(r"(?<![\w.])([a-z]\w*)\.([A-Za-z_]\w*)(?:\.\w+)*|>>=|(?<![\w.'
 IMPORT = re.compile(r"^(?:ghost )?use ((?:Rattle|crate)\.[\w.]+?)(?:\.\{([^}]*)\}| as (\w+));?$", re.M)
 OUTSIDE = ("Shelf", "Source", "Sink")
 """The traits over which `serve` is generic."""
-PROMISE = re.compile(r"^pub fn (serve)<[^{]*?\) -> \w+\n(.*?)^\{|^pub fn (\w+)\(\)\n(.*?)^\{", re.M | re.S)
+PROMISE = re.compile(r"^pub fn (serve|run)<[^{]*?\) -> \w+\n(.*?)^\{|^pub fn (\w+)\(\)\n(.*?)^\{", re.M | re.S)
 
 
 class Definition(NamedTuple):
@@ -172,7 +172,7 @@ def definitions() -> Sources:
 
 @lru_cache(maxsize=None)
 def promises() -> Sources:
-    """The clauses of `serve` and of the traits that it is called with, and those of the laws: public functions that take
+    """The clauses of `serve`, `run` and the traits that they are called with, and those of the laws: functions that take
     nothing."""
     known = definitions()
     found: Sources = {one: source for one, source in known.items() if one.name in OUTSIDE and one.page.startswith("roman_io.src.")}

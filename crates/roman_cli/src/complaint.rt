@@ -2,24 +2,24 @@
 
 use crate::folder::{FolderShelf, Unread};
 use crate::output::StdSink;
+use crate::running::Ended;
 use roman_extent::{extent_of, is_within, product};
 use roman_io::Words;
 use roman_top::Status;
 use std::io::{self, ErrorKind};
 
-/// Writes to standard error why a run ended with this status, unless the output explains it.
+/// Writes to standard error why a run ended with its status, unless the output explains it.
 pub fn complain_of(
     rt: &HostRuntime,
-    status: Status,
-    words: &Words,
+    ended: &Ended,
     shelf: &mut FolderShelf<'_, HostRuntime>,
     out: &StdSink,
 ) -> io::Result<()> {
-    match status {
-        Status::Limit => complain_of_size(rt, words, shelf),
+    match ended.status {
+        Status::Limit => complain_of_size(rt, &ended.words, shelf),
         Status::ShelfFault => complain_of_file(rt, shelf.unread()),
         Status::WriteFault if out.is_closed() => Ok(()),
-        _ => complain(rt, status),
+        status => complain(rt, status),
     }
 }
 
