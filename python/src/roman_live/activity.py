@@ -9,7 +9,7 @@ from roman_client.policies import Choice
 
 from .askers import reason
 from .config import PolicyName
-from .errors import Moved
+from .errors import Moved, check_files
 from .policies import Choose
 
 
@@ -39,8 +39,10 @@ class Chooser:
         self._activity = activity
 
     async def __call__(self, choice: Choice) -> Chosen:
-        """The chosen service, with the reason for the history. Raises `Moved`."""
+        """The chosen service, with the reason for the history. Raises `Moved`, and `NoRoom` if no device can be asked
+        for want of files."""
         self._check()
+        check_files()
         service = await self.policy(choice)
         self._check()
         self._activity.chosen = service

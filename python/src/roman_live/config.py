@@ -14,6 +14,7 @@ from typing import Any, Callable, Dict, Mapping, Optional, Tuple, Union
 import tomllib
 
 from .devices.maps import HttpMap, Map, ModbusMap, MqttMap, is_map, read_http, read_modbus, read_mqtt
+from .limits import Limits
 from .tables import HomeFileError as HomeFileError
 from .tables import Table, Unusable, flag, function, one_of, origins, seconds, secret, text, topic, url, whole, words
 from .toml_lines import located
@@ -188,6 +189,7 @@ class HomeFile:
     program_seconds: float = 120.0
     environment: Optional[Sensor] = None
     words: Words = field(default_factory=Words)
+    limits: Limits = field(default_factory=Limits)
 
     @classmethod
     def read(cls, path: Union[str, "os.PathLike[str]"]) -> HomeFile:
@@ -233,6 +235,7 @@ def _home_file(path: Path, table: Table) -> HomeFile:
         table.take("program_seconds", seconds, 120.0),
         table.attempt(lambda: _environment(table.table("environment"), folder), None),
         table.attempt(lambda: _words(table.take("title", text, None), table.table("words")), Words()),
+        _limits(table.table("limits")),
     )
     table.end()
     table.attempt(lambda: _check_topics(home), None)
@@ -298,6 +301,22 @@ def _page(table: Optional[Table], folder: Path) -> Page:
     if token is None and not is_loopback(host):
         raise table.wrong("token_file", f"is missing, which the address {host} needs: a file with a secret word")
     return Page(host, port, token, frames)
+
+
+def _limits(table: Optional[Table]) -> Limits:
+    if table is None:
+        return Limits()
+    usual = Limits()
+    limits = Limits(
+        table.take("connections", whole(8, 100_000), usual.connections),
+        table.take("listeners", whole(1, 100_000), usual.listeners),
+        table.take("waiting", whole(1, 100_000), usual.waiting),
+        table.take("messages", whole(1, 100_000), usual.messages),
+        table.take("silence", seconds, usual.silence),
+        table.take("unread", seconds, usual.unread),
+    )
+    table.end()
+    return limits
 
 
 def _broker(table: Optional[Table], folder: Path) -> Optional[Broker]:

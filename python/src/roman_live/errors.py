@@ -2,6 +2,7 @@
 
 from __future__ import annotations
 
+import errno
 import os
 import ssl
 
@@ -13,8 +14,16 @@ TROUBLE = (RomanError, OSError)
 """What may keep the home from something for a while: an OSError comes where the program can't be started, too."""
 
 
+FILES = 12
+"""How many files a device may need for a call: a command needs three pipes, and some at its start."""
+
+
 class Busy(RomanError):
     """A request is open."""
+
+
+class Crowded(RomanError):
+    """Too many requests are open."""
 
 
 class UnknownAction(RomanError):
@@ -59,6 +68,26 @@ class Nowhere(RomanError):
 
 class NoDevice(RomanError):
     """The home file doesn't say how a service is reached."""
+
+
+def check_want(error: OSError) -> None:
+    """Raises NoRoom if an error means that the system gives no more files now. That is no failure of a device."""
+    if error.errno in (errno.EMFILE, errno.ENFILE):
+        raise NoRoom(in_words(error)) from None
+
+
+def check_files() -> None:
+    """Raises NoRoom if there aren't enough files now to ask a device."""
+    held: list[int] = []
+    try:
+        for _ in range(FILES):
+            held.append(os.open(os.devnull, os.O_RDONLY | os.O_CLOEXEC))
+    except OSError as error:
+        check_want(error)
+        raise
+    finally:
+        for each in held:
+            os.close(each)
 
 
 def unreached(error: ClientConnectorError) -> str:

@@ -33,7 +33,7 @@ from .devices import Answer, Reach, Simulated
 from .devices.factory import make_reach
 from .devices.maps import Map, check_map, check_states, check_words
 from .environment import EnvironmentSensor
-from .errors import TROUBLE, NoDevice, Nowhere
+from .errors import TROUBLE, NoDevice, NoRoom, Nowhere
 from .events import EventLog
 from .mqtt_api import Connection
 from .processes import Processes
@@ -52,6 +52,9 @@ COMPARED = 3
 DEADLINE = 10.0
 """How many seconds a device may take, unless the home file or the device gives another number."""
 
+NO_FILES_PAUSE = 0.1
+"""After how many seconds a device is asked that couldn't be for want of files."""
+
 BY_ITSELF = "the device"
 """The source, for the history, of a change that a device reported."""
 
@@ -69,8 +72,13 @@ class HomeDevice(aio.Device):
         self._fleet = fleet
 
     async def serve(self, call: Call) -> Outcome:
-        answer = await self.reach.ask(self._fleet.number(call), call)
-        return self._fleet.outcome(call, answer)
+        while True:
+            try:
+                answer = await self.reach.ask(self._fleet.number(call), call)
+                return self._fleet.outcome(call, answer)
+            except NoRoom as error:
+                LOG.warning("%s can't be asked yet: %s", call.service, error)
+            await asyncio.sleep(NO_FILES_PAUSE)
 
     async def state(self, call: Call) -> Told:
         answer = await self.reach.tell(self._fleet.number(call), call)

@@ -178,6 +178,7 @@ class Home:
             self.metrics,
             self._noticed,
             self.dirty.set,
+            file.limits.waiting,
         )
         self.shown = Shown(self)
         self._opened = opened

@@ -21,13 +21,12 @@ from .askers import ASKER, name_of
 from .config import Page, is_loopback
 from .errors import TROUBLE, Busy, Cancelled, Expired, NoDevice, NoPage, Nowhere, UnknownAction, in_words
 from .events import Message
+from .gate import Gate
 from .home import Home
+from .limits import LONGEST_BODY, LONGEST_NAME
 from .pictures import picture
 from .requests import CANCELLED, EXPIRED, PATIENCE
 from .states import explanation_to_json, failures_to_json
-
-LONGEST_BODY = 65_536
-"""The most bytes of a body."""
 
 LONGEST_WAIT = 86_400
 """The most seconds that a request waits for its turn."""
@@ -51,7 +50,10 @@ class Server:
         self.home = home
         self.page = page
         self.url = ""
+        self._limits = home.file.limits
         self._runner: Optional[web.AppRunner] = None
+        self._gate: Optional[Gate] = None
+        self._listening: Optional[asyncio.AbstractServer] = None
         self._closing = asyncio.Event()
 
     async def begin(self) -> None:
@@ -76,20 +78,25 @@ class Server:
         )
         self._runner = web.AppRunner(app, access_log=None)
         await self._runner.setup()
-        site = web.TCPSite(self._runner, self.page.host, self.page.port, shutdown_timeout=2.0)
+        assert self._runner.server is not None
+        self._gate = Gate(self._runner.server, self._limits)
+        loop = asyncio.get_running_loop()
         try:
-            await site.start()
+            self._listening = await loop.create_server(self._gate, self.page.host, self.page.port)
         except OSError as error:
             place = f"{self.page.host}, port {self.page.port}"
             raise NoPage(f"{self.home.file.path}: page: it can't be at {place}: {in_words(error)}") from None
-        port = self._runner.addresses[0][1]
+        port = self._listening.sockets[0].getsockname()[1]
         host = f"[{self.page.host}]" if ":" in self.page.host else self.page.host
         self.url = f"http://{host}:{port}"
 
     async def close(self) -> None:
         """Stops to listen."""
         self._closing.set()
-        if self._runner is not None:
+        if self._listening is not None:
+            self._listening.close()
+        if self._runner is not None and self._runner.server is not None:
+            await self._runner.server.shutdown(2.0)
             await self._runner.cleanup()
 
     # Who may.
@@ -97,6 +104,16 @@ class Server:
     @web.middleware
     async def _guard(self, request: web.Request, handler: Handler) -> web.StreamResponse:
         """Lets through what may be: of one who knows the token, and of the page itself."""
+        assert self._gate is not None
+        if request.method != "POST":  # Of others the body follows.
+            self._gate.begun(request.protocol)
+        try:
+            return await self._answered(request, handler)
+        finally:
+            self._gate.ended(request.protocol)
+
+    async def _answered(self, request: web.Request, handler: Handler) -> web.StreamResponse:
+        """The answer of a handler, or of what refuses the request."""
         try:
             self._check_host(request)
             entered = self._check_token(request)
@@ -212,7 +229,7 @@ class Server:
     # What it does.
 
     async def _post_request(self, request: web.Request) -> web.Response:
-        body = await _body(request)
+        body = await self._body(request)
         action, key, wait = _text(body, "action"), _optional_text(body, "key"), _flag(body, "wait", True)
         channel = "the page" if request.headers.get("Sec-Fetch-Site") == "same-origin" else "a client over HTTP"
         ASKER.set(name_of(_optional_text(body, "by"), channel))
@@ -230,7 +247,7 @@ class Server:
         return _json({"cancelled": cancelled})
 
     async def _post_change(self, request: web.Request) -> web.Response:
-        body = await _body(request)
+        body = await self._body(request)
         service, change = request.match_info["service"], request.match_info["change"]
         source = _source(request)
         if change == "jump":
@@ -239,23 +256,23 @@ class Server:
         return await self._changed(changes[change](service, source))
 
     async def _post_join(self, request: web.Request) -> web.Response:
-        body = await _body(request)
+        body = await self._body(request)
         service, behaviour = _text(body, "service"), _text(body, "behaviour")
         state, loose = _text(body, "state"), _flag(body, "loose", False)
         return await self._changed(self.home.fleet.join(service, behaviour, state, loose, _source(request)))
 
     async def _post_environment(self, request: web.Request) -> web.Response:
-        body = await _body(request)
+        body = await self._body(request)
         return await self._changed(self.home.fleet.jump_environment(_text(body, "state"), _source(request)))
 
     async def _post_record(self, request: web.Request) -> web.Response:
-        body = await _body(request)
+        body = await self._body(request)
         action, service, key = _text(body, "action"), _text(body, "service"), _optional_text(body, "key")
         outcome = _text(body, "state"), _text(body, "environment")
         return await self._changed(self.home.requests.record(action, service, outcome, key, _source(request)))
 
     async def _post_outcome(self, request: web.Request) -> web.Response:
-        body = await _body(request)
+        body = await self._body(request)
         service = _text(body, "service")
         outcome = None
         if not _flag(body, "fail", False):
@@ -265,6 +282,15 @@ class Server:
         except LookupError as error:
             return _json({"error": str(error.args[0])}, HTTPStatus.CONFLICT)
         return await self._state()
+
+    async def _body(self, request: web.Request) -> Mapping[str, Any]:
+        """The object in a body; an empty one if there is no body."""
+        if (request.content_length or 0) > LONGEST_BODY:
+            raise web.HTTPRequestEntityTooLarge(LONGEST_BODY, request.content_length or 0)
+        data = await request.read()
+        assert self._gate is not None
+        self._gate.begun(request.protocol)
+        return _object(data, request.content_type)
 
     async def _changed(self, change: Awaitable[None]) -> web.Response:
         """Makes a change, and gives the state after it."""
@@ -357,14 +383,11 @@ def _sent(message: Message) -> bytes:
     return f"{mark}event: {message.name}\ndata: {json.dumps(message.value)}\n\n".encode()
 
 
-async def _body(request: web.Request) -> Mapping[str, Any]:
-    """The object in a body; an empty one where there is no body."""
-    if (request.content_length or 0) > LONGEST_BODY:
-        raise web.HTTPRequestEntityTooLarge(LONGEST_BODY, request.content_length or 0)
-    data = await request.read()
+def _object(data: bytes, kind: str) -> Mapping[str, Any]:
+    """The object of JSON that these bytes are. Raises HTTPException."""
     if not data:
         return {}
-    if request.content_type != "application/json":
+    if kind != "application/json":
         raise web.HTTPUnsupportedMediaType(text="a body is application/json")
     try:
         value = json.loads(data)
@@ -379,6 +402,8 @@ def _text(body: Mapping[str, Any], name: str) -> str:
     value = body.get(name)
     if not isinstance(value, str):
         raise web.HTTPBadRequest(text=f"{name} has to be a text")
+    if len(value.encode(errors="surrogatepass")) > LONGEST_NAME:
+        raise web.HTTPBadRequest(text=f"{name} has at most {LONGEST_NAME} bytes")
     return value
 
 

@@ -17,6 +17,8 @@ import time
 from collections.abc import Iterator
 from pathlib import Path
 
+from .errors import check_want
+
 LOG = logging.getLogger("roman_live")
 
 LOOK_AGAIN = 0.05
@@ -49,8 +51,12 @@ class Processes:
             os.close(file)
 
     def open(self) -> int:
-        """Opens the file for a command that is kept."""
-        return os.open(self._path, os.O_RDWR | os.O_CREAT | os.O_CLOEXEC, 0o644)
+        """Opens the file for a command that is kept. Raises NoRoom for want of files."""
+        try:
+            return os.open(self._path, os.O_RDWR | os.O_CREAT | os.O_CLOEXEC, 0o644)
+        except OSError as error:
+            check_want(error)
+            raise
 
     def is_at_work(self, number: int) -> bool:
         """Whether the command of a call still runs, or one that it started and that belongs to another user."""

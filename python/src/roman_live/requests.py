@@ -14,7 +14,7 @@ from roman_client.devices import Outcome
 from .activity import Activity
 from .background import Background
 from .devices import Answer, Simulated
-from .errors import Busy, Cancelled, Ending, Expired, Moved, UnknownAction
+from .errors import Busy, Cancelled, Crowded, Ending, Expired, Moved, UnknownAction
 from .events import EventLog
 from .fleet import Fleet
 from .metrics import Metrics
@@ -53,8 +53,9 @@ class Requests:
         metrics: Metrics,
         noticed: asyncio.Event,
         changed: Callable[[], None],
+        most: int,
     ) -> None:
-        """`noticed` is set at each notice of the dispatcher, and `changed` is called when what is shown has changed."""
+        """At most `most` requests are open. `noticed` is set at each notice of the dispatcher, and `changed` is called when what is shown has changed."""
         self.ending = False
         self.open = 0
         """How many requests are open, with those that wait."""
@@ -67,6 +68,7 @@ class Requests:
         self._metrics = metrics
         self._noticed = noticed
         self._changed = changed
+        self._most = most
         self._turn = asyncio.Lock()
         self._waiting: set[Waiting] = set()
         self._last: tuple[Done | None, int] = (None, 0)
@@ -89,6 +91,9 @@ class Requests:
         if self.open and not wait:
             self._metrics.requests.labels("busy").inc()
             raise Busy("a request is open")
+        if self.open >= self._most:
+            self._metrics.requests.labels("busy").inc()
+            raise Crowded(f"{self.open} requests wait already; try again later")
         self.open += 1
         return await asyncio.shield(self.background.run(self._served(action, key, expires, source)))
 

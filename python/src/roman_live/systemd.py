@@ -10,6 +10,8 @@ import sys
 
 from systemd import daemon  # type: ignore[import]
 
+from .log import OnceAMinute
+
 PRIORITIES = {logging.WARNING: 4, logging.ERROR: 3, logging.CRITICAL: 2}
 """The priorities of syslog for the levels of messages. Other messages have that of an information, 6."""
 
@@ -34,6 +36,7 @@ class Lines(logging.Formatter):
 def begin_log(level: int) -> None:
     """Has messages from that level on written to the standard error."""
     handler = logging.StreamHandler(sys.stderr)
+    handler.addFilter(OnceAMinute())
     form = "%(name)s: %(message)s"
     handler.setFormatter(Lines(form) if in_journal() else logging.Formatter(form))
     logging.basicConfig(level=level, handlers=[handler])

@@ -43,7 +43,7 @@ ODD: list[Any] = [
 ODD += ["http://x", "ftp://x", "a:b", "0.0.0.0", "::1", [], ["x"], ["x", 1], {}, {"reach": "http", "url": "http://x"}]
 KEYS = "choose costs requests path host port token_file username password_file prefix tls ca_file certificate_file "
 KEYS += "key_file reach seconds repeat ask answer url command lines numbered call document program policy journal x "
-KEYS += "late poll"
+KEYS += "late poll limits connections silence"
 
 
 def places(value: Any) -> list[tuple[Any, Any]]:

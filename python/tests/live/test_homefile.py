@@ -5,6 +5,7 @@ import unittest
 from pathlib import Path
 
 from roman_live.config import CommandReach, HomeFile, HomeFileError, HttpReach, MqttReach, PolicyName, PythonReach, Tls
+from roman_live.limits import Limits
 
 GOOD = """
 document = "home.json"
@@ -20,6 +21,13 @@ path = "state/journal"
 host = "0.0.0.0"
 port = 81
 token_file = "token"
+[limits]
+connections = 500
+listeners = 65
+waiting = 20
+messages = 50
+silence = 5
+unread = 2.5
 [mqtt]
 host = "broker"
 port = 1884
@@ -52,6 +60,8 @@ WRONG = (
     ('documents = "h"', 'document is missing, as in document = "home.json"'),
     ("document = 5", "document is 5, and not a text"),
     ('document = "h"\nprogram_seconds = 0', "program_seconds is 0, and not a number of seconds"),
+    ('document = "h"\n[limits]\nconnections = 7', "limits.connections is 7, and not a whole number from 8 to 100000"),
+    ('document = "h"\n[limits]\nsilence = 0', "limits.silence is 0, and not a number of seconds"),
     ('document = "h"\nextra = 1', "extra isn't known; known are document, program, policy"),
     ('document = "h"\n[policy]\nchoose = "best"', "policy.choose is 'best', and not one of 'first'"),
     ('document = "h"\n[policy]\nchoose = "least cost"', "policy.costs is missing"),
@@ -133,6 +143,7 @@ class HomeFiles(unittest.TestCase):
         self.assertEqual(home.policy.requests, 12)
         self.assertEqual(home.journal, self.folder / "state/journal")
         self.assertEqual((home.page.host, home.page.port, home.page.token), ("0.0.0.0", 81, "secret"))
+        self.assertEqual(home.limits, Limits(500, 65, 20, 50, 5.0, 2.5))
         assert home.mqtt is not None
         self.assertEqual((home.mqtt.host, home.mqtt.port, home.mqtt.prefix), ("broker", 1884, "house"))
         self.assertEqual((home.mqtt.username, home.mqtt.password), ("me", "secret"))

@@ -67,8 +67,8 @@ class Reach:
         """Lets go of what it holds."""
 
     async def ask(self, number: int, call: Call) -> Answer:
-        """Has the action of a call carried out. Raises an exception where the device can't. It may be
-        cancelled at any time; then what is answered later is taken for nothing."""
+        """Has the action of a call carried out. Raises an exception if the device can't, and NoRoom if it wasn't asked
+        for want of files. It may be cancelled at any time; then what is answered later is taken for nothing."""
         raise NotImplementedError
 
     async def tell(self, number: Optional[int], call: Optional[Call] = None) -> Optional[Answer]:

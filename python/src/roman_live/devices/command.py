@@ -13,6 +13,7 @@ from typing import Any, Dict, Iterator, Optional, Set, Tuple
 from roman_client import Call, DeviceFailed, DeviceLost
 
 from ..config import CommandReach
+from ..errors import check_want
 from ..processes import Processes, lock, unlock
 from .base import LONGEST_ANSWER, STATE_WORD, Answer, Listener, Reach, short
 
@@ -306,10 +307,11 @@ def _hindrance(entry: CommandReach) -> Optional[str]:
 
 @contextlib.contextmanager
 def _naming(entry: CommandReach) -> Iterator[None]:
-    """Raises DeviceFailed, with the name of a command, where it can't be started."""
+    """Raises DeviceFailed, with the name of a command, if it can't be started; and NoRoom for want of files."""
     try:
         yield
     except OSError as error:
+        check_want(error)
         raise DeviceFailed(f"{entry.command[0]} can't be started: {error.strerror}") from None
 
 

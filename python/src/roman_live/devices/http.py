@@ -12,7 +12,7 @@ from yarl import URL
 from roman_client import Call, DeviceFailed, DeviceLost
 
 from ..config import HttpReach
-from ..errors import unreached
+from ..errors import check_want, unreached
 from .base import LONGEST_ANSWER, Answer, Listener, Reach, answer_of, json_of, short
 
 
@@ -52,6 +52,7 @@ class Client:
                 data = await _read(response)
                 status = response.status
         except aiohttp.ClientConnectorError as error:
+            check_want(error.os_error)
             raise DeviceFailed(f"{shown}: {unreached(error)}") from None
         except aiohttp.ClientError as error:
             raise DeviceLost(f"{shown}: {error or type(error).__name__}") from None

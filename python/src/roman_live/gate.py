@@ -1,0 +1,128 @@
+"""The connections of the page: how many there may be, and for how long they may be silent."""
+
+from __future__ import annotations
+
+import asyncio
+import logging
+from collections.abc import Callable
+
+from .limits import Limits
+
+LOG = logging.getLogger("roman_live.http_api")
+
+LONGEST_HEAD = 524_288
+"""The most bytes that are read from a connection for one request: more than those of a body, since the system hands
+over up to 262,144 at once."""
+
+
+class Gate:
+    """Makes the connections of a server. If there are too many, a new one takes the place of the one that is silent
+    for longest, first of those that have never made a request. One whose request is being served keeps its place."""
+
+    def __init__(self, make: Callable[[], asyncio.Protocol], limits: Limits) -> None:
+        """`make` makes the protocol that serves a connection."""
+        self.limits = limits
+        self._make = make
+        self._open: dict[asyncio.BaseProtocol, Connection] = {}
+        self._new: dict[Connection, None] = {}
+        self._silent: dict[Connection, None] = {}
+
+    def __call__(self) -> asyncio.Protocol:
+        return Connection(self, self._make())
+
+    def begun(self, protocol: asyncio.BaseProtocol) -> None:
+        """A whole request has come, and is being served."""
+        connection = self._open.get(protocol)
+        if connection is not None:
+            self._forget(connection)
+            connection.serve()
+
+    def ended(self, protocol: asyncio.BaseProtocol) -> None:
+        """A request was answered. The connection is silent until its next one."""
+        connection = self._open.get(protocol)
+        if connection is not None:
+            self._forget(connection)
+            self._silent[connection] = None
+            connection.wait()
+
+    def enter(self, connection: Connection) -> bool:
+        """Gives a new connection a place. False if all are taken by requests."""
+        if len(self._open) >= self.limits.connections:
+            oldest = next(iter(self._new or self._silent), None)
+            if oldest is None:
+                LOG.warning("connections are refused: %d are open, which all have a request", len(self._open))
+                return False
+            LOG.warning("silent connections are closed: more than %d are open", self.limits.connections)
+            oldest.end()
+            self.leave(oldest)
+        self._open[connection.inner] = connection
+        self._new[connection] = None
+        return True
+
+    def leave(self, connection: Connection) -> None:
+        """A connection is closed."""
+        self._open.pop(connection.inner, None)
+        self._forget(connection)
+
+    def _forget(self, connection: Connection) -> None:
+        self._new.pop(connection, None)
+        self._silent.pop(connection, None)
+
+
+class Connection(asyncio.Protocol):
+    """A connection. It passes everything to the protocol `inner`, and ends if it is silent for too long."""
+
+    def __init__(self, gate: Gate, inner: asyncio.Protocol) -> None:
+        self.inner = inner
+        self._gate = gate
+        self._transport: asyncio.Transport | None = None
+        self._timer: asyncio.TimerHandle | None = None
+        self._read = 0
+
+    def serve(self) -> None:
+        """Its request is being served, which may take its time."""
+        self._read = 0
+        if self._timer is not None:
+            self._timer.cancel()
+
+    def wait(self) -> None:
+        """It has to send a whole request in time."""
+        self.serve()
+        self._timer = asyncio.get_running_loop().call_later(self._gate.limits.silence, self.end)
+
+    def end(self) -> None:
+        """Closes it at once."""
+        if self._transport is not None:
+            self._transport.abort()
+
+    def connection_made(self, transport: asyncio.BaseTransport) -> None:
+        assert isinstance(transport, asyncio.Transport)
+        if not self._gate.enter(self):
+            transport.abort()
+            return
+        self._transport = transport
+        self.inner.connection_made(transport)
+        self.wait()
+
+    def connection_lost(self, exc: Exception | None) -> None:
+        if self._transport is None:
+            return
+        self.serve()
+        self._gate.leave(self)
+        self.inner.connection_lost(exc)
+
+    def data_received(self, data: bytes) -> None:
+        self._read += len(data)
+        if self._read > LONGEST_HEAD:
+            self.end()
+        else:
+            self.inner.data_received(data)
+
+    def eof_received(self) -> bool | None:
+        return self.inner.eof_received()
+
+    def pause_writing(self) -> None:
+        self.inner.pause_writing()
+
+    def resume_writing(self) -> None:
+        self.inner.resume_writing()

@@ -1,0 +1,64 @@
+"""How much a home takes from outside."""
+
+from __future__ import annotations
+
+import time
+from collections.abc import Callable
+from dataclasses import dataclass
+
+LONGEST_BODY = 65_536
+"""The most bytes of a body, and of a message."""
+
+LONGEST_NAME = 256
+"""The most bytes of a key, and of a name that a request brings."""
+
+Clock = Callable[[], float]
+
+
+@dataclass(frozen=True)
+class Limits:
+    """The limits of a home. Each has the same name in the home file."""
+
+    connections: int = 256
+    """How many connections may be open at the page."""
+
+    listeners: int = 64
+    """How many of them may listen to events."""
+
+    waiting: int = 100
+    """How many requests may be open, over HTTP and MQTT together."""
+
+    messages: int = 100
+    """How many requests a second may come over MQTT."""
+
+    silence: float = 30.0
+    """How many seconds a connection may take to send a request, to read the answer, and between two requests."""
+
+    unread: float = 10.0
+    """How many seconds a listener may leave events unread."""
+
+
+class Bucket:
+    """Lets through `burst` things at once, and as many as `rate` a second after that."""
+
+    def __init__(self, burst: int, rate: float, clock: Clock = time.monotonic) -> None:
+        self._burst = burst
+        self._rate = rate
+        self._clock = clock
+        self._left = float(burst)
+        self._at = clock()
+
+    @property
+    def is_empty(self) -> bool:
+        """Whether nothing is let through now."""
+        present = self._clock()
+        self._left = min(self._burst, self._left + (present - self._at) * self._rate)
+        self._at = present
+        return self._left < 1
+
+    def take(self) -> bool:
+        """Takes one thing. False if it isn't let through."""
+        if self.is_empty:
+            return False
+        self._left -= 1
+        return True
