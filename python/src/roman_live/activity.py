@@ -16,8 +16,8 @@ from .policies import Choose
 @dataclass
 class Activity:
     """The service that was `chosen` for the open request, until its answer comes; the call that is under way, and
-    since when; the failures at that request; the reason of the last choice; and how many changes wait that devices
-    reported."""
+    since when; the failures at that request; the reason of the last choice; and how many changes that devices
+    reported come before the next choice."""
 
     chosen: str | None = None
     call: tuple[Call, str] | None = None

@@ -3,14 +3,24 @@
 from __future__ import annotations
 
 import asyncio
+import json
 import logging
 import secrets
 from collections import deque
 from dataclasses import dataclass, field
 from datetime import datetime, timezone
-from typing import Any, Deque, Dict, List, Mapping, Optional, Set
+from functools import cached_property
+from typing import Any, Deque, Dict, List, Mapping, Optional, Set, Tuple
+
+from .limits import Bucket
 
 LOG = logging.getLogger("roman_live")
+
+FROM_OUTSIDE = ("late", "wrong")
+"""The kinds of events that a device or a stranger can bring about at will."""
+
+BURST = 20
+"""How many of these may come at once from a service. After that one a second is kept."""
 
 KEPT = 200
 """How many events are kept."""
@@ -18,8 +28,15 @@ KEPT = 200
 LONGEST_NUMBER = 18
 """The most digits of the number of an event."""
 
+LONGEST_MARK = 64
+"""The most letters of the mark of an event."""
+
 BEHIND = 1000
 """How many messages may wait for a listener, before it is let go."""
+
+
+BETWEEN_WRITES = 0.05
+"""How many seconds pass at least between two writes to a listener."""
 
 
 def now() -> str:
@@ -56,6 +73,12 @@ class Message:
     value: Any
     mark: Optional[str] = None
 
+    @cached_property
+    def encoded(self) -> bytes:
+        """The message as it is sent to all listeners."""
+        mark = "" if self.mark is None else f"id: {self.mark}\n"
+        return f"{mark}event: {self.name}\ndata: {json.dumps(self.value)}\n\n".encode()
+
 
 Listener = asyncio.Queue[Optional[Message]]
 """What waits for a listener. None says that it was let go."""
@@ -69,16 +92,21 @@ class EventLog:
         self._next = 1
         self._kept: Deque[Event] = deque(maxlen=KEPT)
         self._listeners: Set[Listener] = set()
+        self._buckets: Dict[Tuple[str, Any], Bucket] = {}
 
-    def add(self, kind: str, text: str, *, level: int = logging.INFO, **details: Any) -> Event:
-        """Something happened, which is logged on that level."""
+    def add(self, kind: str, text: str, *, level: int = logging.INFO, **details: Any) -> None:
+        """Something happened, which is logged on that level. What comes from outside too often is left out."""
+        if kind in FROM_OUTSIDE and not self._is_seldom(kind, details.get("service")):
+            return
         LOG.log(level, "%s", text)
         event = Event(self._next, now(), kind, text, details)
         self._next += 1
         self._kept.append(event)
         if self._listeners:
             self.send(self.message(event))
-        return event
+
+    def _is_seldom(self, kind: str, service: Any) -> bool:
+        return self._buckets.setdefault((kind, service), Bucket(BURST, 1.0)).take()
 
     def message(self, event: Event) -> Message:
         """The message that tells of an event. Its mark names the event also for other runs."""
@@ -106,6 +134,12 @@ class EventLog:
         self._listeners.add(listener)
         return listener
 
+    def dismiss(self) -> None:
+        """Lets all listeners go."""
+        for listener in self._listeners:
+            listener.put_nowait(None)
+        self._listeners.clear()
+
     def leave(self, listener: Listener) -> None:
         """A listener goes."""
         self._listeners.discard(listener)
@@ -114,3 +148,16 @@ class EventLog:
     def listeners(self) -> int:
         """How many listen."""
         return len(self._listeners)
+
+
+async def heard(listener: Listener, seconds: float) -> List[Optional[Message]]:
+    """What waits for a listener. If nothing does, waits that long for something, and then gives nothing."""
+    try:
+        async with asyncio.timeout(seconds):
+            messages = [await listener.get()]
+    except TimeoutError:
+        return []
+    await asyncio.sleep(BETWEEN_WRITES)
+    while not listener.empty():
+        messages.append(listener.get_nowait())
+    return messages

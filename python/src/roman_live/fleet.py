@@ -35,6 +35,7 @@ from .devices.maps import Map, check_map, check_states, check_words
 from .environment import EnvironmentSensor
 from .errors import TROUBLE, NoDevice, NoRoom, Nowhere
 from .events import EventLog
+from .moves import PAUSE, Moves
 from .mqtt_api import Connection
 from .processes import Processes
 from .recovery import Returning
@@ -54,6 +55,9 @@ DEADLINE = 10.0
 
 NO_FILES_PAUSE = 0.1
 """After how many seconds a device is asked that couldn't be for want of files."""
+
+ENVIRONMENT = ""
+"""The subject of a move of the environment. No service has this name."""
 
 BY_ITSELF = "the device"
 """The source, for the history, of a change that a device reported."""
@@ -158,6 +162,8 @@ class Fleet:
         self._simulate = simulate
         self._ready = False
         self._turns: dict[str, asyncio.Lock] = {}
+        self._coming: dict[str, Answer | None] = {}
+        self.moves = Moves(self._post, activity, lambda error: events.add("wrong", str(error)))
         self.returning = Returning(known, self.held, self.told, self.back, changed, by_hand=simulate)
         for name in [each.name for each in document.services] if simulate else file.devices:
             self._add(name)
@@ -221,6 +227,7 @@ class Fleet:
 
     async def close(self) -> None:
         """Closes all devices."""
+        self.moves.hold()
         await self.background.close()
         await self.returning.close()
 
@@ -345,7 +352,11 @@ class Fleet:
         if known is None or known.dead or not self._ready:
             return
         if known.frozen and service not in self.held():
-            self.background.run(self.back(service, answer))
+            if service in self._coming:
+                self._coming[service] = answer
+            else:
+                self._coming[service] = None
+                self.background.run(self._come_back(service, answer))
             return
         if service == self._activity.chosen:
             return  # It is asked, and its answer says where it is after this.
@@ -362,7 +373,7 @@ class Fleet:
         known.last_error = "is gone"
         self._events.add("gone", f"{service} is gone", service=service)
         if service != self._activity.chosen:
-            self._post(protocol.freeze(service))
+            self.moves.add(service, protocol.freeze(service))
 
     def late(self, service: str, text: str) -> None:
         self._events.add("late", f"{service} {text}", service=service)
@@ -370,8 +381,8 @@ class Fleet:
 
     def environment_moved(self, state: str) -> None:
         """The environment is in that state by itself."""
-        if state != self.known.environment or self._activity.moving:
-            self._post(protocol.jumpenv(state))
+        if state != self.known.environment or self.moves.is_open:
+            self.moves.add(ENVIRONMENT, protocol.jumpenv(state))
 
     def look_at_environment(self) -> None:
         """Corrects the environment if the document moved it, and its sensor sees that it isn't so."""
@@ -390,21 +401,22 @@ class Fleet:
         """A service is there now by itself."""
         if answer.environment is not None:
             self.environment_moved(answer.environment)
-        if answer.state != self.known[service].state or self._activity.moving:
-            self._post(protocol.jump(service, answer.state))
+        if answer.state != self.known[service].state or self.moves.is_open:
+            self.moves.add(service, protocol.jump(service, answer.state))
 
-    def _post(self, event: Event[Any]) -> None:
-        """Makes a change in its turn. Until it is made no service is chosen."""
-        self._activity.moving += 1
-        future = self._dispatcher.post(event, Frozen.GONE, BY_ITSELF)
+    def _post(self, event: Event[Any]) -> asyncio.Future[Any]:
+        """Makes a change in its turn."""
+        return self._dispatcher.post(event, Frozen.GONE, BY_ITSELF)
 
-        def made(future: asyncio.Future[Any]) -> None:
-            self._activity.moving -= 1
-            error = None if future.cancelled() else future.exception()
-            if error is not None:
-                self._events.add("wrong", str(error))
-
-        future.add_done_callback(made)
+    async def _come_back(self, service: str, answer: Answer) -> None:
+        """A frozen service told its state. What it tells meanwhile counts after that."""
+        try:
+            await self.back(service, answer)
+            await asyncio.sleep(PAUSE)
+        finally:
+            newer = self._coming.pop(service)
+        if newer is not None:
+            self.moved(service, newer)
 
     def _broker_changed(self, connected: bool, text: str) -> None:
         self._events.add("broker", text, level=logging.INFO if connected else logging.WARNING, connected=connected)

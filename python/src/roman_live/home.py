@@ -302,6 +302,7 @@ class Home:
 
     def _asked(self, call: Call) -> None:
         self.activity.call = (call, now())
+        self.fleet.moves.drop(call.service)  # Its answer is newer.
         self.known[call.service].calls += 1
         self.metrics.asked.labels(call.service).inc()
         asker, why = ASKER.get(), self.activity.reason

@@ -20,11 +20,11 @@ from roman_client import InDoubt, KeyTaken, NoComposition, NotAllowed, Refusal, 
 from .askers import ASKER, name_of
 from .config import Page, is_loopback
 from .errors import TROUBLE, Busy, Cancelled, Expired, NoDevice, NoPage, Nowhere, UnknownAction, in_words
-from .events import Message
+from .events import LONGEST_MARK, Listener, Message, heard
 from .gate import Gate
 from .home import Home
 from .limits import LONGEST_BODY, LONGEST_NAME
-from .pictures import picture
+from .pictures import Picture
 from .requests import CANCELLED, EXPIRED, PATIENCE
 from .states import explanation_to_json, failures_to_json
 
@@ -36,6 +36,8 @@ NO_EXPIRY = f"expires has to be a number of seconds, at most {LONGEST_WAIT}"
 COOKIE = "roman_live_token"
 
 PAGE = Path(__file__).resolve().parent / "page" / "index.html"
+
+EVENT_STREAM = {"Content-Type": "text/event-stream", "Cache-Control": "no-store"}
 
 HEARTBEAT = 15.0
 """After how many seconds without a message a listener is sent a comment, so that it sees the end."""
@@ -51,10 +53,10 @@ class Server:
         self.page = page
         self.url = ""
         self._limits = home.file.limits
+        self._picture = Picture(home.file.document)
         self._runner: Optional[web.AppRunner] = None
         self._gate: Optional[Gate] = None
         self._listening: Optional[asyncio.AbstractServer] = None
-        self._closing = asyncio.Event()
 
     async def begin(self) -> None:
         """Begins to listen. Raises NoPage where that can't be."""
@@ -92,7 +94,7 @@ class Server:
 
     async def close(self) -> None:
         """Stops to listen."""
-        self._closing.set()
+        self.home.events.dismiss()
         if self._listening is not None:
             self._listening.close()
         if self._runner is not None and self._runner.server is not None:
@@ -117,8 +119,7 @@ class Server:
         try:
             self._check_host(request)
             entered = self._check_token(request)
-            if request.method not in ("GET", "HEAD"):
-                self._check_origin(request)
+            self._check_origin(request)
             # A response without members is false, so that `or` won't do.
             response = await handler(request) if entered is None else entered
         except web.HTTPException as error:
@@ -165,9 +166,13 @@ class Server:
         raise web.HTTPUnauthorized(text="the token is missing, or another one")
 
     def _check_origin(self, request: web.Request) -> None:
-        """Raises HTTPForbidden for what another page sends."""
+        """Raises HTTPForbidden for what another page sends, or loads; it may lead to this home's page."""
         origin = request.headers.get("Origin")
         site = request.headers.get("Sec-Fetch-Site", "none")
+        if request.method in ("GET", "HEAD"):
+            if site not in ("same-origin", "none") and request.headers.get("Sec-Fetch-Mode") != "navigate":
+                raise web.HTTPForbidden(text="only this home's own page may load it")
+            return
         own = request.headers.get("Host", "")
         foreign = origin is not None and origin.partition("://")[2] != own
         if foreign or site not in ("same-origin", "none"):
@@ -181,7 +186,7 @@ class Server:
         return web.Response(text=text, content_type="text/html", headers=headers)
 
     async def _get_picture(self, request: web.Request) -> web.Response:
-        drawn = await picture(self.home.file.document)
+        drawn = await self._picture.get()
         if drawn is None:
             raise web.HTTPNotFound(text="there is no picture: roman-draw and graphviz make it")
         headers = {"Content-Security-Policy": "default-src 'none'; style-src 'unsafe-inline'"}
@@ -199,32 +204,38 @@ class Server:
 
     async def _get_events(self, request: web.Request) -> web.StreamResponse:
         """The events that were missed, the state, and what comes."""
-        response = web.StreamResponse(headers={"Content-Type": "text/event-stream", "Cache-Control": "no-store"})
-        await response.prepare(request)
         last = request.headers.get("Last-Event-ID", "")
+        if len(last) > LONGEST_MARK:
+            raise web.HTTPBadRequest(text=f"a Last-Event-ID has at most {LONGEST_MARK} letters")
+        if request.method == "HEAD":
+            return web.Response(headers=EVENT_STREAM)
+        if self.home.events.listeners >= self._limits.listeners:
+            raise web.HTTPServiceUnavailable(text=f"{self._limits.listeners} listen already")
         listener = self.home.events.listen()
-        closing = asyncio.ensure_future(self._closing.wait())
+        response = web.StreamResponse(headers=EVENT_STREAM)
         try:
-            for event in self.home.events.after(last):
-                await response.write(_sent(self.home.events.message(event)))
-            await response.write(_sent(Message("state", await self.home.shown.state())))
-            while not self._closing.is_set():
-                waiting = asyncio.ensure_future(listener.get())
-                await asyncio.wait({waiting, closing}, timeout=HEARTBEAT, return_when=asyncio.FIRST_COMPLETED)
-                if not waiting.done():
-                    waiting.cancel()
-                    await response.write(b": still here\n\n")
-                    continue
-                message = waiting.result()
-                if message is None:
-                    break
-                await response.write(_sent(message))
+            await response.prepare(request)
+            await self._send_events(response, listener, last)
+        except TimeoutError:  # It doesn't read.
+            if request.transport is not None:
+                request.transport.abort()
         except TROUBLE:
             pass  # The listener is gone, or the state can't be had; the page connects again.
         finally:
-            closing.cancel()
             self.home.events.leave(listener)
         return response
+
+    async def _send_events(self, response: web.StreamResponse, listener: Listener, last: str) -> None:
+        """Sends events to a listener until it is let go. Raises TimeoutError if it doesn't read them."""
+        messages: list[Optional[Message]] = [self.home.events.message(each) for each in self.home.events.after(last)]
+        messages.append(Message("state", await self.home.shown.state()))
+        while True:
+            data = b"".join(each.encoded for each in messages if each is not None)
+            async with asyncio.timeout(self._limits.unread):
+                await response.write(data or b": still here\n\n")
+            if None in messages:
+                return
+            messages = await heard(listener, HEARTBEAT)
 
     # What it does.
 
@@ -375,12 +386,6 @@ def _same(shown: str, token: str) -> bool:
 
 def _json(value: Any, status: int = HTTPStatus.OK) -> web.Response:
     return web.json_response(value, status=status)
-
-
-def _sent(message: Message) -> bytes:
-    """A message as an event that the server sends."""
-    mark = "" if message.mark is None else f"id: {message.mark}\n"
-    return f"{mark}event: {message.name}\ndata: {json.dumps(message.value)}\n\n".encode()
 
 
 def _object(data: bytes, kind: str) -> Mapping[str, Any]:

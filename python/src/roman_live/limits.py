@@ -41,12 +41,12 @@ class Limits:
 class Bucket:
     """Lets through `burst` things at once, and as many as `rate` a second after that."""
 
-    def __init__(self, burst: int, rate: float, clock: Clock = time.monotonic) -> None:
+    def __init__(self, burst: int, rate: float, clock: Clock | None = None) -> None:
         self._burst = burst
         self._rate = rate
-        self._clock = clock
+        self._clock = clock or time.monotonic
         self._left = float(burst)
-        self._at = clock()
+        self._at = self._clock()
 
     @property
     def is_empty(self) -> bool:

@@ -13,6 +13,7 @@ from typing import Any, Callable
 import paho.mqtt.client as mqtt  # type: ignore[import]
 
 from .config import Broker
+from .limits import LONGEST_BODY
 
 LOG = logging.getLogger("roman_live.mqtt_api")
 
@@ -253,6 +254,9 @@ class Connection:
             self._agreed.set()
 
     def _on_message(self, client: Any, data: Any, message: Any) -> None:
+        if len(message.payload) > LONGEST_BODY:
+            LOG.warning("a message on %s is ignored: it has more than %d bytes", message.topic, LONGEST_BODY)
+            return
         for listener in self._listeners.get(message.topic, ()):
             try:
                 listener(message.payload, bool(message.retain))

@@ -9,6 +9,7 @@ from typing import Any, Dict, Optional, Set
 from .askers import ASKER, name_of
 from .home import Home
 from .http_api import expiry, result
+from .limits import Bucket
 from .mqtt_api import Connection
 
 
@@ -24,6 +25,8 @@ class MqttRequests:
     def __init__(self, home: Home) -> None:
         self._home = home
         self._tasks: Set[asyncio.Task[None]] = set()
+        rate = home.file.limits.messages
+        self._messages = Bucket(rate, rate)
 
     async def begin(self) -> None:
         """Begins to listen, where there is a broker."""
@@ -34,8 +37,11 @@ class MqttRequests:
             await broker.agreed()
 
     def _hear(self, payload: bytes, retained: bool) -> None:
-        """A request. A retained one was for another time."""
+        """A request. A retained one was for another time, and one too many is for nobody."""
         if retained:
+            return
+        if not self._messages.take():
+            self._home.events.add("wrong", "requests over MQTT are ignored: too many come")
             return
         value = _object(payload)
         task = asyncio.ensure_future(self._serve(value))

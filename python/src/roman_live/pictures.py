@@ -3,39 +3,56 @@
 from __future__ import annotations
 
 import asyncio
+import contextlib
 import shutil
 import sys
 from pathlib import Path
-from typing import Dict, Optional, Tuple
 
-DRAWN: Dict[Tuple[Path, int], bytes] = {}
-"""The drawings, by document and its time."""
-
-
-async def picture(document: Path) -> Optional[bytes]:
-    """The drawing of a document as SVG, or None where it can't be drawn here."""
-    key = (document, document.stat().st_mtime_ns)
-    if key not in DRAWN:
-        tool = _tool()
-        if tool is None:
-            return None
-        process = await asyncio.create_subprocess_exec(
-            *tool,
-            document.name,
-            cwd=document.parent,
-            stdin=asyncio.subprocess.DEVNULL,
-            stdout=asyncio.subprocess.PIPE,
-            stderr=asyncio.subprocess.DEVNULL,
-        )
-        output, _ = await process.communicate()
-        if process.returncode != 0:
-            return None
-        DRAWN.clear()
-        DRAWN[key] = output
-    return DRAWN[key]
+LONGEST_DRAWING = 60.0
+"""After how many seconds a drawing is given up."""
 
 
-def _tool() -> Optional[Tuple[str, ...]]:
+class Picture:
+    """The drawing of a document. It is made once, and kept until the document changes."""
+
+    def __init__(self, document: Path) -> None:
+        self._document = document
+        self._drawn: tuple[int, bytes | None] | None = None
+        self._turn = asyncio.Lock()
+
+    async def get(self) -> bytes | None:
+        """The drawing as SVG, or None if it can't be drawn here."""
+        async with self._turn:
+            changed = self._document.stat().st_mtime_ns
+            if self._drawn is None or self._drawn[0] != changed:
+                self._drawn = changed, await _draw(self._document)
+            return self._drawn[1]
+
+
+async def _draw(document: Path) -> bytes | None:
+    tool = _tool()
+    if tool is None:
+        return None
+    process = await asyncio.create_subprocess_exec(
+        *tool,
+        document.name,
+        cwd=document.parent,
+        stdin=asyncio.subprocess.DEVNULL,
+        stdout=asyncio.subprocess.PIPE,
+        stderr=asyncio.subprocess.DEVNULL,
+    )
+    try:
+        async with asyncio.timeout(LONGEST_DRAWING):
+            output, _ = await process.communicate()
+    except TimeoutError:
+        return None
+    finally:
+        with contextlib.suppress(ProcessLookupError):
+            process.kill()
+    return output if process.returncode == 0 else None
+
+
+def _tool() -> tuple[str, ...] | None:
     """The command that draws: that of the repository, or the installed one."""
     beside = Path(__file__).resolve().parents[3] / "tools" / "roman-draw"
     if beside.exists():

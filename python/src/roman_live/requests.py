@@ -23,6 +23,9 @@ from .states import done_to_json
 PATIENCE = 300.0
 """How many seconds a request waits for its turn, unless it says another number."""
 
+MOVES = 3
+"""How often a request is made again since something moved by itself. After that moves wait for the request."""
+
 EXPIRED, CANCELLED = "expired", "cancelled"
 
 
@@ -55,7 +58,8 @@ class Requests:
         changed: Callable[[], None],
         most: int,
     ) -> None:
-        """At most `most` requests are open. `noticed` is set at each notice of the dispatcher, and `changed` is called when what is shown has changed."""
+        """At most `most` requests are open. `noticed` is set at each notice of the dispatcher, and `changed` is called
+        when what is shown has changed."""
         self.ending = False
         self.open = 0
         """How many requests are open, with those that wait."""
@@ -168,8 +172,21 @@ class Requests:
 
     async def _request(self, action: str, key: str | None, source: str | None) -> Done:
         """Has an action served; again if something moved by itself before a device was asked."""
+        try:
+            return await self._after_moves(action, key, source)
+        finally:
+            self._fleet.moves.go_on()
+
+    async def _after_moves(self, action: str, key: str | None, source: str | None) -> Done:
+        """Has an action served once what moved by itself is known; if that doesn't end, without the newest moves."""
         failures: list[Failure] = []
+        attempts = 0
         while True:
+            attempts += 1
+            if attempts > MOVES:
+                self._fleet.moves.hold()
+            else:
+                self._fleet.moves.make_all()
             try:
                 done = await self._dispatcher.request(action, key, source)
                 return done if not failures else replace(done, failures=(*failures, *done.failures))

@@ -5,6 +5,7 @@ from __future__ import annotations
 import asyncio
 import contextlib
 import http.client
+import itertools
 import json
 import logging
 import os
@@ -17,12 +18,17 @@ from urllib.parse import urlsplit
 
 import pytest
 
-from roman_live import fleet
-from roman_live.config import HomeFile
+from roman_client import DeviceFailed
+from roman_live import fleet, limits, moves, pictures
+from roman_live.config import Broker, HomeFile
+from roman_live.devices import Answer
 from roman_live.errors import Crowded, NoRoom
 from roman_live.home import Home
 from roman_live.http_api import Server
 from roman_live.log import OnceAMinute
+from roman_live.mqtt_api import Connection
+from roman_live.mqtt_requests import MqttRequests
+from roman_live.pictures import Picture
 
 from . import sample
 from .machinery import PATIENCE, Live
@@ -225,6 +231,258 @@ def test_a_device_is_asked_when_there_are_files_again(tmp_path: Path) -> None:
             assert len(served.devices["window"].calls) == 1
 
     run(test())
+
+
+async def listen(served: Served) -> Client:
+    """A listener that has heard the state."""
+    client = await served.client()
+    client.send("GET /events HTTP/1.1\r\nHost: localhost\r\n\r\n")
+    assert (await client.head())[0] == 200
+    await client.reader.readuntil(b"event: state\n")
+    return client
+
+
+def test_an_event_is_written_once_for_all_listeners(tmp_path: Path) -> None:
+    async def test() -> None:
+        async with Served.begin(tmp_path) as served:
+            listeners = [await listen(served) for _ in range(5)]
+            with mock.patch("json.dumps", wraps=json.dumps) as dumps:
+                await served.home.requests.serve("brighten")
+                for each in listeners:
+                    await each.reader.readuntil(b'"kind": "served"')
+            told = [call.args[0] for call in dumps.call_args_list]
+            assert len([each for each in told if isinstance(each, dict) and each.get("kind") == "served"]) == 1
+
+    run(test())
+
+
+def test_too_many_listeners(tmp_path: Path) -> None:
+    async def test() -> None:
+        async with Served.begin(tmp_path, "[limits]\nlisteners = 2\n") as served:
+            first, _ = await listen(served), await listen(served)
+            status, body = await (await served.client()).get("/events")
+            assert (status, json.loads(body)) == (503, {"error": "2 listen already"})
+            assert (await (await served.client()).get("/state"))[0] == 200
+            first.writer.close()
+            while served.home.events.listeners > 1:
+                served.home.events.add("begun", "something happens")
+                await asyncio.sleep(0.01)
+            await listen(served)
+
+    run(test())
+
+
+def test_a_listener_that_does_not_read_is_let_go(tmp_path: Path) -> None:
+    async def test() -> None:
+        async with Served.begin(tmp_path, "[limits]\nunread = 0.05\n") as served:
+            client = await listen(served)
+            client.writer.transport.pause_reading()  # type: ignore[attr-defined]
+            while served.home.events.listeners:
+                served.home.events.add("begun", "x" * 100_000)
+                await asyncio.sleep(0.01)
+            client.writer.transport.resume_reading()  # type: ignore[attr-defined]
+            await client.ended()
+
+    run(test())
+
+
+def test_the_head_of_events_ends(tmp_path: Path) -> None:
+    async def test() -> None:
+        async with Served.begin(tmp_path) as served:
+            client = await served.client()
+            for _ in range(2):
+                assert (await client.get("/events", "HEAD"))[0] == 200
+
+    run(test())
+
+
+def test_listeners_are_told_the_end(tmp_path: Path) -> None:
+    async def test() -> None:
+        async with Served.begin(tmp_path) as served:
+            client = await listen(served)
+        await client.ended()
+
+    run(test())
+
+
+@pytest.mark.parametrize("status", [0, 1])
+def test_a_document_is_drawn_once(tmp_path: Path, status: int) -> None:
+    tool = tmp_path / "draw"
+    tool.write_text(f"#!/bin/sh\necho begun >> runs\necho '<svg/>'\nexit {status}\n", encoding="ascii")
+    tool.chmod(0o755)
+    document = tmp_path / "home.json"
+    document.touch()
+
+    async def test() -> None:
+        picture = Picture(document)
+        with mock.patch.object(pictures, "_tool", lambda: (str(tool),)):
+            drawn = await asyncio.gather(*(picture.get() for _ in range(20)))
+            assert set(drawn) == {None if status else b"<svg/>\n"}
+            assert len((tmp_path / "runs").read_text(encoding="ascii").splitlines()) == 1
+            os.utime(document, (1, 1))
+            await picture.get()
+            assert len((tmp_path / "runs").read_text(encoding="ascii").splitlines()) == 2
+
+    run(test())
+
+
+def changes(home: Home) -> list[str]:
+    """The events of changes."""
+    return [each.text for each in home.events.after("") if each.kind == "changed"]
+
+
+def test_of_many_moves_the_newest_counts(tmp_path: Path) -> None:
+    async def test() -> None:
+        async with Served.begin(tmp_path) as served:
+            home = served.home
+            for number in range(1000):
+                home.fleet.environment_moved("day" if number % 2 else "dusk")
+                home.fleet.moved("window", Answer("ajar" if number % 2 else "open"))
+            while home.fleet.moves.is_open:
+                await asyncio.sleep(0)
+            assert (home.known.environment, home.known["window"].state) == ("day", "ajar")
+            assert changes(home) == [
+                "the environment is dusk now",
+                "jump window open",
+                "the environment is day now",
+                "jump window ajar",
+            ]
+
+    run(test())
+
+
+def test_a_request_gets_its_turn_though_sensors_never_stop(tmp_path: Path) -> None:
+    async def test() -> None:
+        async with Served.begin(tmp_path) as served:
+            home, ask = served.home, Played.ask
+
+            async def act(device: Played, *words: Any) -> Answer:
+                return Answer((await ask(device, *words)).state)
+
+            async def report() -> None:
+                for number in itertools.count():
+                    home.fleet.environment_moved(("day", "dusk")[number % 2])
+                    home.fleet.moved("window", Answer(("ajar", "shut")[number // 2 % 2]))
+                    await asyncio.sleep(0)
+
+            with mock.patch.object(moves, "PAUSE", 0.0), mock.patch.object(Played, "ask", act):
+                reporting = asyncio.ensure_future(report())
+                assert (await home.requests.serve("brighten"))["action"] == "brighten"
+                reporting.cancel()
+
+    run(test())
+
+
+def test_what_waits_is_older_than_an_answer(tmp_path: Path) -> None:
+    """A request that has waited for moves often enough is served, and what its device said before counts no more."""
+
+    async def test() -> None:
+        async with Served.begin(tmp_path) as served:
+            home = served.home
+            policy, choices = home.chooser.policy, []
+
+            async def choose(choice: Any) -> str:
+                choices.append(choice)
+                home.fleet.moved("window", Answer(("shut", "ajar")[len(choices) % 2]))
+                return await policy(choice)
+
+            home.chooser.policy = choose
+            with mock.patch.object(moves, "PAUSE", 0.0):
+                assert (await home.requests.serve("brighten"))["state"] == "open"
+            assert len(choices) == 4
+            while home.fleet.moves.is_open:
+                await asyncio.sleep(0)
+            assert home.known["window"].state == "open"
+
+    run(test())
+
+
+def test_a_frozen_device_that_reports_without_end(tmp_path: Path) -> None:
+    async def test() -> None:
+        async with Served.begin(tmp_path) as served:
+            home, window = served.home, served.devices["window"]
+            window.error = DeviceFailed("broken")
+            assert (await home.requests.serve("brighten"))["served_by"] == "ceiling"
+            with mock.patch.object(home.fleet, "back", wraps=home.fleet.back) as back:
+                for _ in range(1000):
+                    home.fleet.moved("window", Answer("nowhere"))
+                home.fleet.moved("window", Answer("ajar"))
+                while home.known["window"].frozen:
+                    await asyncio.sleep(0)
+            assert home.known["window"].state == "ajar"
+            assert back.call_count == 2
+
+    run(test())
+
+
+def test_too_many_requests_over_mqtt(tmp_path: Path) -> None:
+    async def test() -> None:
+        async with Served.begin(tmp_path, "[limits]\nmessages = 5\n") as served:
+            published: asyncio.Queue[Any] = asyncio.Queue()
+            served.home.fleet.broker = Fake(published)  # type: ignore[assignment]
+            heard: dict[str, Any] = {}
+            with mock.patch("time.monotonic", lambda: 0.0):
+                requests = MqttRequests(served.home)
+            with mock.patch.object(Fake, "subscribe", lambda fake, topic, listener: heard.update({topic: listener})):
+                await requests.begin()
+            with mock.patch("time.monotonic", lambda: 0.0):
+                for number in range(100):
+                    heard["requests"](json.dumps({"id": number, "action": "sing"}).encode(), False)
+            assert [(await published.get())["id"] for _ in range(5)] == list(range(5))
+            assert published.empty()
+            texts = [each.text for each in served.home.events.after("") if each.kind == "wrong"]
+            assert texts == ["requests over MQTT are ignored: too many come"] * len(texts)
+            assert len(texts) == 20
+            served.home.fleet.broker = None
+
+    run(test())
+
+
+class Fake:
+    """A broker that has what is published."""
+
+    connected = True
+
+    def __init__(self, published: asyncio.Queue[Any]) -> None:
+        self.published = published
+
+    def topic(self, name: str) -> str:
+        """A topic."""
+        return name
+
+    def subscribe(self, topic: str, listener: Any) -> None:
+        """Ignores it."""
+
+    def publish_now(self, topic: str, value: Any, retain: bool = False) -> bool:
+        """Ignores it."""
+        return True
+
+    def publish(self, topic: str, value: Any) -> None:
+        """Has it."""
+        self.published.put_nowait(value)
+
+    async def agreed(self) -> None:
+        """Comes at once."""
+
+
+def test_a_bucket_is_filled_again() -> None:
+    time = [0.0]
+    bucket = limits.Bucket(3, 0.5, lambda: time[0])
+    assert [bucket.take() for _ in range(5)] == [True] * 3 + [False] * 2
+    time[0] = 2.0
+    assert [bucket.take() for _ in range(2)] == [True, False]
+    time[0] = 100.0
+    assert [bucket.take() for _ in range(5)] == [True] * 3 + [False] * 2
+
+
+def test_a_message_that_is_too_long(caplog: pytest.LogCaptureFixture) -> None:
+    heard = []
+    connection = Connection(Broker(), lambda connected, text: None)
+    connection.subscribe("lamp", lambda payload, retained: heard.append(payload))
+    for length in (65_536, 65_537):
+        connection._on_message(None, None, mock.Mock(topic="lamp", payload=b" " * length))
+    assert [len(each) for each in heard] == [65_536]
+    assert "a message on lamp is ignored" in caplog.text
 
 
 def test_a_repeated_warning_is_one_line_a_minute() -> None:

@@ -173,6 +173,11 @@ class Api(Served):
         ):
             with self.subTest(headers):
                 self.assertEqual(call(url, body, headers)[0], 403)
+        for site in ("cross-site", "same-site"):
+            image = {"Sec-Fetch-Site": site, "Sec-Fetch-Mode": "no-cors"}
+            self.assertEqual(call(f"{self.live.url}/picture.svg", None, image)[0], 403)
+            link = {"Sec-Fetch-Site": site, "Sec-Fetch-Mode": "navigate"}
+            self.assertEqual(call(f"{self.live.url}/", None, link)[0], 200)
         self.assertEqual(self.live.state()["counts"]["served"], 0)
         own = {"Origin": self.live.url, "Sec-Fetch-Site": "same-origin"}
         self.assertEqual(call(url, body, own)[0], 200)
@@ -185,8 +190,10 @@ class Api(Served):
         run, number = shown[1]["run"], shown[1]["id"]
         last = {"Last-Event-ID": f"{run}-{number}"}
         self.assertEqual([each["kind"] for each in self.events(last)], ["served"])
-        for unknown in ("7", f"{run}-999", f"another-{number}", f"{run}-" + "9" * 5000, run):
+        for unknown in ("7", f"{run}-999", f"another-{number}", f"{run}-" + "9" * 40, run):
             self.assertEqual(len(self.events({"Last-Event-ID": unknown})), 3)
+        status, value = call(f"{self.live.url}/events", None, {"Last-Event-ID": f"{run}-" + "9" * 5000})
+        self.assertEqual((status, value), (400, {"error": "a Last-Event-ID has at most 64 letters"}))
 
     def events(self, headers: Dict[str, str]) -> List[Dict[str, Any]]:
         """The events before the first state."""
