@@ -5,6 +5,7 @@ from __future__ import annotations
 import ipaddress
 import os
 import ssl
+import stat
 from dataclasses import dataclass, field
 from enum import Enum
 from functools import partial
@@ -13,10 +14,26 @@ from typing import Any, Callable, Dict, Mapping, Optional, Tuple, Union
 
 import tomllib
 
+from .access import LONGEST_TOKEN, TOKEN_BITS, bits
 from .devices.maps import HttpMap, Map, ModbusMap, MqttMap, is_map, read_http, read_modbus, read_mqtt
 from .limits import Limits
 from .tables import HomeFileError as HomeFileError
-from .tables import Table, Unusable, flag, function, one_of, origins, seconds, secret, text, topic, url, whole, words
+from .tables import (
+    Table,
+    Unusable,
+    first_line,
+    flag,
+    function,
+    one_of,
+    origins,
+    seconds,
+    secret,
+    text,
+    topic,
+    url,
+    whole,
+    words,
+)
 from .toml_lines import located
 
 LONGEST_HORIZON = 64
@@ -47,12 +64,14 @@ class Policy:
 
 @dataclass(frozen=True)
 class Page:
-    """Where the page and the HTTP API are. `token` is what has to be shown, where there is one."""
+    """Where the page and the HTTP API are. `token` is what has to be shown to operate them, if there is one, and
+    `watch_token` to watch."""
 
     host: str = "127.0.0.1"
     port: int = 8080
     token: Optional[str] = None
     frame_ancestors: Tuple[str, ...] = ()
+    watch_token: Optional[str] = None
 
 
 @dataclass(frozen=True)
@@ -295,12 +314,16 @@ def _page(table: Optional[Table], folder: Path) -> Page:
         return Page()
     host = table.take("host", text, "127.0.0.1")
     port = table.take("port", whole(0, 65535), 8080)
-    token = secret(table, "token_file", folder)
+    token, watch_token = (_token(table, key, folder) for key in ("token_file", "watch_token_file"))
     frames: Tuple[str, ...] = table.take("frame_ancestors", origins, ())
     table.end()
+    if watch_token is not None and token is None:
+        raise table.wrong("watch_token_file", "is there, and token_file isn't: a token to operate the home")
+    if watch_token is not None and watch_token == token:
+        raise table.wrong("watch_token_file", "has the same token as token_file")
     if token is None and not is_loopback(host):
         raise table.wrong("token_file", f"is missing, which the address {host} needs: a file with a secret word")
-    return Page(host, port, token, frames)
+    return Page(host, port, token, frames, watch_token)
 
 
 def _limits(table: Optional[Table]) -> Limits:
@@ -353,6 +376,20 @@ def _tls(table: Optional[Table], folder: Path) -> Optional[Tls]:
         except OSError as error:
             raise table.wrong(name, f"is {given[name]!r}, which can't be used: {error}") from None
     return tls
+
+
+def _token(table: Table, key: str, folder: Path) -> Optional[str]:
+    """A token that can't be guessed, in a file that others can't read."""
+    file = table.take(key, text, None)
+    if file is None:
+        return None
+    token = first_line(table, key, folder, file)
+    if (folder / file).stat().st_mode & stat.S_IRWXO:
+        raise table.wrong(key, f"is {file!r}, which every user of this machine can read; see chmod o= {file}")
+    if not TOKEN_BITS <= bits(token) or len(token) > LONGEST_TOKEN:
+        make = f"(umask 77; openssl rand -hex 32 > {file})"
+        raise table.wrong(key, f"is {file!r}, whose token could be guessed; this makes another one: {make}")
+    return token
 
 
 def _devices(table: Optional[Table], folder: Path) -> Dict[str, DeviceEntry]:

@@ -5,18 +5,19 @@ from __future__ import annotations
 import asyncio
 import base64
 import hashlib
-import hmac
+import html
 import json
 import re
 from http import HTTPStatus
 from pathlib import Path
 from typing import Any, Awaitable, Callable, Dict, Mapping, Optional, Tuple
-from urllib.parse import urlsplit
+from urllib.parse import parse_qs, urlsplit
 
 from aiohttp import web
 
 from roman_client import InDoubt, KeyTaken, NoComposition, NotAllowed, Refusal, StoreFailed
 
+from .access import GUESSES_A_SECOND, Access, Role, TooManyGuesses
 from .askers import ASKER, name_of
 from .config import Page, is_loopback
 from .errors import TROUBLE, Busy, Cancelled, Expired, NoDevice, NoPage, Nowhere, UnknownAction, in_words
@@ -35,7 +36,7 @@ NO_EXPIRY = f"expires has to be a number of seconds, at most {LONGEST_WAIT}"
 
 COOKIE = "roman_live_token"
 
-PAGE = Path(__file__).resolve().parent / "page" / "index.html"
+PAGE, LOGIN = (Path(__file__).resolve().parent / "page" / name for name in ("index.html", "login.html"))
 
 EVENT_STREAM = {"Content-Type": "text/event-stream", "Cache-Control": "no-store"}
 
@@ -53,6 +54,7 @@ class Server:
         self.page = page
         self.url = ""
         self._limits = home.file.limits
+        self._access = Access(page.token, page.watch_token)
         self._picture = Picture(home.file.document)
         self._runner: Optional[web.AppRunner] = None
         self._gate: Optional[Gate] = None
@@ -69,6 +71,7 @@ class Server:
                 web.get("/remedies", self._get_remedies),
                 web.get("/events", self._get_events),
                 web.get("/metrics", self._get_metrics),
+                web.post("/login", self._post_login),
                 web.post("/requests", self._post_request),
                 web.delete("/requests/{key}", self._delete_request),
                 web.post("/services/{service}/{change:freeze|thaw|die|jump}", self._post_change),
@@ -118,26 +121,37 @@ class Server:
         """The answer of a handler, or of what refuses the request."""
         try:
             self._check_host(request)
-            entered = self._check_token(request)
+            entered = None if request.path == "/login" else self._enter(request)
             self._check_origin(request)
             # A response without members is false, so that `or` won't do.
             response = await handler(request) if entered is None else entered
         except web.HTTPException as error:
             if error.status == HTTPStatus.REQUEST_ENTITY_TOO_LARGE:
                 error.text = f"a body has at most {LONGEST_BODY} bytes"
-            response = _json({"error": error.text or error.reason}, error.status)
+            response = self._refused(request, error)
+        except TooManyGuesses:
+            slow = web.HTTPTooManyRequests(text="too many wrong tokens came from this address; wait a little")
+            response = self._refused(request, slow)
+            response.headers["Retry-After"] = str(round(1 / GUESSES_A_SECOND))
         except TROUBLE as error:
             response = _json({"error": str(error)}, HTTPStatus.SERVICE_UNAVAILABLE)
         if not response.prepared:
             response.headers.setdefault("Cache-Control", "no-store")
             response.headers["X-Content-Type-Options"] = "nosniff"
-            response.headers["Referrer-Policy"] = "no-referrer"
+            response.headers.setdefault("Referrer-Policy", "no-referrer")
         return response
+
+    def _refused(self, request: web.Request, error: web.HTTPException) -> web.Response:
+        """What refuses a request: to people who have shown no token, the page for it."""
+        why = error.text or error.reason
+        if error.status in (HTTPStatus.UNAUTHORIZED, HTTPStatus.TOO_MANY_REQUESTS) and _is_for_people(request):
+            return _login("" if request.method == "GET" and "token" not in request.query else f"{why}.", error.status)
+        return _json({"error": why}, error.status)
 
     def _check_host(self, request: web.Request) -> None:
         """Without a token only names of this machine are taken, so that no other page can use one of its
         own that leads here."""
-        if self.page.token is None:
+        if self._access.is_open:
             try:
                 host = urlsplit(f"//{request.headers.get('Host', '')}").hostname
             except ValueError:
@@ -145,24 +159,25 @@ class Server:
             if host is None or not (is_loopback(host) or host == self.page.host):
                 raise web.HTTPForbidden(text="another name than that of this machine was called")
 
-    def _check_token(self, request: web.Request) -> Optional[web.Response]:
-        """Raises HTTPUnauthorized for one who doesn't know the token. One who shows it in the address of
-        the page is let in, and has it in a cookie from then on."""
-        token = self.page.token
-        if token is None:
+    def _enter(self, request: web.Request) -> Optional[web.Response]:
+        """Checks the token, and the role that it gives. One who shows it in the address of the page is let in, and has
+        it in a cookie from then on."""
+        if self._access.is_open:
             return None
         kind, _, shown = request.headers.get("Authorization", "").partition(" ")
-        if kind.lower() == "bearer" and _same(shown.strip(), token):
-            return None
-        if _same(request.cookies.get(COOKIE, ""), token):
-            return None
-        if request.method == "GET" and _same(request.query.get("token", ""), token):
+        query = request.query.get("token", "") if request.method == "GET" else ""
+        bearer = shown.strip() if kind.lower() == "bearer" else ""
+        for token in filter(None, (bearer, request.cookies.get(COOKIE, ""), query)):
+            role = self._access.role(token, request.remote or "")
+            if role is None:
+                continue
+            if request.method not in ("GET", "HEAD") and role is not Role.OPERATE:
+                raise web.HTTPForbidden(text="this token may only watch")
+            request["role"] = role
             # A page in a frame of another one isn't sent the cookie: it shows the token with each request.
-            if request.path != "/" or self.page.frame_ancestors:
-                return None
-            response = web.Response(status=HTTPStatus.SEE_OTHER, headers={"Location": "/"})
-            response.set_cookie(COOKIE, token, httponly=True, samesite="Strict", path="/")
-            return response
+            if token == query and request.path == "/" and not self.page.frame_ancestors:
+                return _let_in(token)
+            return None
         raise web.HTTPUnauthorized(text="the token is missing, or another one")
 
     def _check_origin(self, request: web.Request) -> None:
@@ -182,6 +197,8 @@ class Server:
 
     async def _get_page(self, request: web.Request) -> web.Response:
         text = PAGE.read_text(encoding="utf-8")
+        if request.get("role") is Role.WATCH:
+            text = text.replace("<body>", '<body class="watch">')
         headers = {"Content-Security-Policy": _policy_of(text, self.page.frame_ancestors)}
         return web.Response(text=text, content_type="text/html", headers=headers)
 
@@ -238,6 +255,14 @@ class Server:
             messages = await heard(listener, HEARTBEAT)
 
     # What it does.
+
+    async def _post_login(self, request: web.Request) -> web.Response:
+        """Takes the token of the page for it, and leads to the home's page."""
+        data = await self._read(request)
+        token = parse_qs(data.decode(errors="replace")).get("token", [""])[0].strip()
+        if not self._access.is_open and self._access.role(token, request.remote or "") is None:
+            raise web.HTTPUnauthorized(text="this isn't the token")
+        return _let_in(token)
 
     async def _post_request(self, request: web.Request) -> web.Response:
         body = await self._body(request)
@@ -296,12 +321,16 @@ class Server:
 
     async def _body(self, request: web.Request) -> Mapping[str, Any]:
         """The object in a body; an empty one if there is no body."""
+        return _object(await self._read(request), request.content_type)
+
+    async def _read(self, request: web.Request) -> bytes:
+        """The body of a request. Its connection keeps its place from then on."""
         if (request.content_length or 0) > LONGEST_BODY:
             raise web.HTTPRequestEntityTooLarge(LONGEST_BODY, request.content_length or 0)
         data = await request.read()
         assert self._gate is not None
         self._gate.begun(request.protocol)
-        return _object(data, request.content_type)
+        return data
 
     async def _changed(self, change: Awaitable[None]) -> web.Response:
         """Makes a change, and gives the state after it."""
@@ -379,9 +408,24 @@ async def result(
         return HTTPStatus.SERVICE_UNAVAILABLE, {"error": str(error)}
 
 
-def _same(shown: str, token: str) -> bool:
-    # Headers are read with what isn't UTF-8 in them kept.
-    return hmac.compare_digest(shown.encode(errors="surrogateescape"), token.encode())
+def _let_in(token: str) -> web.Response:
+    """Leads to the page, with the token in a cookie."""
+    response = web.Response(status=HTTPStatus.SEE_OTHER, headers={"Location": "/"})
+    response.set_cookie(COOKIE, token, httponly=True, samesite="Strict", path="/")
+    return response
+
+
+def _login(why: str, status: int) -> web.Response:
+    """The page on which the token is entered, with why it is shown."""
+    text = LOGIN.read_text(encoding="utf-8").replace('role="alert">', f'role="alert">{html.escape(why)}')
+    # Without a referrer a browser doesn't say that the form is this page's.
+    headers = {"Content-Security-Policy": _policy_of(text, forms="'self'"), "Referrer-Policy": "same-origin"}
+    return web.Response(text=text, status=status, content_type="text/html", headers=headers)
+
+
+def _is_for_people(request: web.Request) -> bool:
+    """Whether a browser shows the answer as a page."""
+    return request.path in ("/", "/login") and "text/html" in request.headers.get("Accept", "")
 
 
 def _json(value: Any, status: int = HTTPStatus.OK) -> web.Response:
@@ -423,8 +467,8 @@ def _flag(body: Mapping[str, Any], name: str, otherwise: bool) -> bool:
     return value
 
 
-def _policy_of(page: str, frames: Tuple[str, ...]) -> str:
-    """The policy for a page that has nothing but what stands in it."""
+def _policy_of(page: str, frames: Tuple[str, ...] = (), forms: str = "'none'") -> str:
+    """The policy for a page that has nothing but what stands in it, and whose forms lead there."""
 
     def hashes(element: str) -> str:
         found = re.findall(rf"<{element}>(.*?)</{element}>", page, re.DOTALL)
@@ -440,7 +484,7 @@ def _policy_of(page: str, frames: Tuple[str, ...]) -> str:
             "connect-src 'self'",
             "img-src 'self' data:",
             "base-uri 'none'",
-            "form-action 'none'",
+            f"form-action {forms}",
             f"frame-ancestors {' '.join(frames) or none}",
         ]
     )

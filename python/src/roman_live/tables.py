@@ -193,8 +193,11 @@ def function(value: Any) -> Tuple[str, str]:
 def secret(table: Table, key: str, folder: Path) -> Optional[str]:
     """The first line of the file that a key names."""
     file = table.take(key, text, None)
-    if file is None:
-        return None
+    return None if file is None else first_line(table, key, folder, file)
+
+
+def first_line(table: Table, key: str, folder: Path, file: str) -> str:
+    """The first line of a file, which a key names."""
     try:
         lines = (folder / file).read_text(encoding="utf-8").splitlines()
     except (OSError, UnicodeDecodeError) as error:

@@ -15,11 +15,13 @@ from jsonschema import Draft7Validator  # type: ignore[import]
 from roman_live.config import HomeFile, HomeFileError
 
 from . import TOP
-from .test_homefile import GOOD, WRONG
+from .test_homefile import GOOD, TOKEN, WRONG
 
 SCHEMA = Draft7Validator(json.loads((TOP / "schema" / "home.schema.json").read_text(encoding="utf-8")))
 HOMES = [tomllib.loads(GOOD), {"document": "h", "mqtt": {"tls": {}}, "devices": {}}]
-ONLY_THE_PROGRAM = re.compile(r"can't be (read|used)|whose first line is empty|, and so is |Invalid|Expected|Cannot")
+ONLY_THE_PROGRAM = re.compile(
+    r"can't be (read|used)|whose first line is empty|has the same token|, and so is |Invalid|Expected|Cannot"
+)
 """What no schema says: faults of other files, and topics with two uses."""
 ODD: list[Any] = [
     True,
@@ -43,7 +45,7 @@ ODD: list[Any] = [
 ODD += ["http://x", "ftp://x", "a:b", "0.0.0.0", "::1", [], ["x"], ["x", 1], {}, {"reach": "http", "url": "http://x"}]
 KEYS = "choose costs requests path host port token_file username password_file prefix tls ca_file certificate_file "
 KEYS += "key_file reach seconds repeat ask answer url command lines numbered call document program policy journal x "
-KEYS += "late poll limits connections silence"
+KEYS += "late poll limits connections silence watch_token_file"
 
 
 def places(value: Any) -> list[tuple[Any, Any]]:
@@ -81,7 +83,8 @@ def toml(value: Any) -> str:
 
 def refusal(folder: Path, text: str) -> str:
     """The error of a home file, or nothing."""
-    (folder / "token").write_text("secret\n", encoding="ascii")
+    (folder / "token").write_text(f"{TOKEN}\n", encoding="ascii")
+    (folder / "token").chmod(0o600)
     (folder / "home.toml").write_text(text, encoding="utf-8")
     try:
         HomeFile.read(folder / "home.toml")

@@ -53,6 +53,8 @@ reach = "python"
 call = "things.fans:fan"
 """
 
+TOKEN = "7c1f0e5b9a3d4826b7e2c9f81d60a435"
+
 DEVICE = 'document = "h"\n[devices.fan]\nreach = '
 
 WRONG = (
@@ -60,6 +62,14 @@ WRONG = (
     ('documents = "h"', 'document is missing, as in document = "home.json"'),
     ("document = 5", "document is 5, and not a text"),
     ('document = "h"\nprogram_seconds = 0', "program_seconds is 0, and not a number of seconds"),
+    (
+        'document = "h"\n[page]\nwatch_token_file = "token"',
+        "page.watch_token_file is there, and token_file isn't",
+    ),
+    (
+        'document = "h"\n[page]\ntoken_file = "token"\nwatch_token_file = "token"',
+        "page.watch_token_file has the same token as token_file",
+    ),
     ('document = "h"\n[limits]\nconnections = 7', "limits.connections is 7, and not a whole number from 8 to 100000"),
     ('document = "h"\n[limits]\nsilence = 0', "limits.silence is 0, and not a number of seconds"),
     ('document = "h"\nextra = 1', "extra isn't known; known are document, program, policy"),
@@ -126,7 +136,8 @@ class HomeFiles(unittest.TestCase):
         folder = tempfile.TemporaryDirectory()
         self.addCleanup(folder.cleanup)
         self.folder = Path(folder.name)
-        (self.folder / "token").write_text("secret\nmore\n", encoding="utf-8")
+        (self.folder / "token").write_text(f"{TOKEN}\nmore\n", encoding="utf-8")
+        (self.folder / "token").chmod(0o600)
         (self.folder / "empty").write_text("\n", encoding="utf-8")
 
     def read(self, text: str) -> HomeFile:
@@ -142,11 +153,11 @@ class HomeFiles(unittest.TestCase):
         self.assertEqual(home.policy.costs, self.folder / "home.costs")
         self.assertEqual(home.policy.requests, 12)
         self.assertEqual(home.journal, self.folder / "state/journal")
-        self.assertEqual((home.page.host, home.page.port, home.page.token), ("0.0.0.0", 81, "secret"))
+        self.assertEqual((home.page.host, home.page.port, home.page.token), ("0.0.0.0", 81, TOKEN))
         self.assertEqual(home.limits, Limits(500, 65, 20, 50, 5.0, 2.5))
         assert home.mqtt is not None
         self.assertEqual((home.mqtt.host, home.mqtt.port, home.mqtt.prefix), ("broker", 1884, "house"))
-        self.assertEqual((home.mqtt.username, home.mqtt.password), ("me", "secret"))
+        self.assertEqual((home.mqtt.username, home.mqtt.password), ("me", TOKEN))
         self.assertEqual(
             {name: entry.reach for name, entry in home.devices.items()},
             {

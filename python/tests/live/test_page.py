@@ -15,6 +15,7 @@ from selenium.webdriver.support.select import Select
 
 from .browser import Demonstrated, Played, Running, browser, wait_until
 from .machinery import free_port
+from .test_homefile import TOKEN
 
 CONTRAST = """
 const light = color => {
@@ -460,13 +461,18 @@ class WithAToken(Browsing):
     def test_a_token_is_needed(self) -> None:
         home = Played('token_file = "token"\n')
         self.addCleanup(home.close)
-        (home.folder / "token").write_text("open sesame\n", encoding="utf-8")
+        (home.folder / "token").write_text(f"{TOKEN}\n", encoding="utf-8")
+        (home.folder / "token").chmod(0o600)
         home.begin()
         for path in ("/", "/?token=open"):
             self.driver.get(f"{home.url}{path}")
             self.assertIn("token", self.find("body").text)
             self.assertEqual(self.driver.find_elements("id", "actions"), [])
-        self.open(home, "/?token=open+sesame")
+        self.find("input[name='token']").send_keys(TOKEN)
+        self.find("button").click()
+        wait_until(lambda: self.driver.find_elements("id", "actions"), "the home's page")
+        self.driver.delete_all_cookies()
+        self.open(home, f"/?token={TOKEN}")
         self.assertEqual(self.driver.current_url, f"{home.url}/")
         self.press("actions", "brighten")
         self.press("outcomes", "window is open")

@@ -14,6 +14,7 @@ from typing import Any, Dict, List
 
 from . import ROMAN_LIVE, sample
 from .machinery import OPENER, PATIENCE, Live, call, until
+from .test_homefile import TOKEN
 
 WORLD = """
 import os
@@ -60,7 +61,8 @@ class Served(unittest.TestCase):
         self.addCleanup(folder.cleanup)
         self.folder = Path(folder.name)
         (self.folder / "things.py").write_text(WORLD, encoding="utf-8")
-        (self.folder / "token").write_text("open sesame\n", encoding="utf-8")
+        (self.folder / "token").write_text(f"{TOKEN}\n", encoding="utf-8")
+        (self.folder / "token").chmod(0o600)
         home = f'document = "{sample("home.json")}"\n{self.journal}{DEVICES}'
         self.live = Live(self.folder, home, *self.words)
         with self.live.file.open("a", encoding="utf-8") as file:
@@ -262,9 +264,9 @@ class Token(Served):
             return 0
 
     def test_the_token(self) -> None:
-        self.assertEqual(self.status({"Authorization": "Bearer open sesame"}), 200)
+        self.assertEqual(self.status({"Authorization": f"Bearer {TOKEN}"}), 200)
         self.assertEqual(self.status({"Authorization": "Bearer open"}), 401)
-        self.assertEqual(self.status({"Authorization": "Basic open sesame"}), 401)
+        self.assertEqual(self.status({"Authorization": f"Basic {TOKEN}"}), 401)
         self.assertEqual(self.status({"Authorization": "Bearer \xff"}), 401)
         self.assertEqual(self.status({"Cookie": "roman_live_token=wrong"}), 401)
         self.assertEqual(self.status({}, "/?token=wrong"), 401)
@@ -272,10 +274,10 @@ class Token(Served):
         self.assertEqual(self.status({}, "/metrics"), 401)
         url = f"{self.live.url}/requests"
         self.assertEqual(call(url, {"action": "brighten"}, {})[0], 401)
-        foreign = {"Authorization": "Bearer open sesame", "Origin": "http://evil.example"}
+        foreign = {"Authorization": f"Bearer {TOKEN}", "Origin": "http://evil.example"}
         self.assertEqual(call(url, {"action": "brighten"}, foreign)[0], 403)
         opener = urllib.request.build_opener(urllib.request.ProxyHandler({}), urllib.request.HTTPCookieProcessor())
-        with opener.open(f"{self.live.url}/?token=open%20sesame") as response:
+        with opener.open(f"{self.live.url}/?token={TOKEN}") as response:
             self.assertEqual(response.url, f"{self.live.url}/")
         with opener.open(f"{self.live.url}/state") as response:
             self.assertEqual(response.status, 200)

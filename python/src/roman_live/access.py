@@ -1,0 +1,99 @@
+"""Who may use the page, by its tokens."""
+
+from __future__ import annotations
+
+import hmac
+import ipaddress
+import math
+import string
+from collections import deque
+from enum import Enum
+
+from .limits import Bucket
+
+TOKEN_BITS = 128
+"""How many bits a token needs at least, if it is random."""
+
+LEAST_LETTERS = 8
+"""How many different letters a token needs at least."""
+
+GUESSES, GUESSES_A_SECOND = 10, 0.2
+"""How many wrong tokens may come from an address at once, and how many a second after that."""
+
+ADDRESSES = 1000
+"""From how many addresses, and how many, wrong tokens are remembered."""
+
+
+LONGEST_TOKEN = 1024
+"""The most letters of a token."""
+
+
+class Role(Enum):
+    """What the holder of a token may do: see everything, or change it, too."""
+
+    WATCH = "watch"
+    OPERATE = "operate"
+
+
+class TooManyGuesses(Exception):
+    """Too many wrong tokens came from an address. No token is compared for a while."""
+
+
+class Access:
+    """The tokens of a page. Without one everybody may operate it."""
+
+    def __init__(self, operate: str | None, watch: str | None) -> None:
+        self.is_open = operate is None
+        self._tokens = [(token, role) for token, role in ((operate, Role.OPERATE), (watch, Role.WATCH)) if token]
+        self._guesses: dict[str, Bucket] = {}
+        self._wrong: deque[str] = deque(maxlen=ADDRESSES)
+
+    def role(self, shown: str, address: str) -> Role | None:
+        """The role of one who shows a token. None if it is wrong. Raises TooManyGuesses."""
+        guesses = self._guesses_of(address)
+        if guesses.is_empty:
+            raise TooManyGuesses
+        for token, role in self._tokens:
+            if _is_same(shown, token):
+                return role
+        shown = shown[:LONGEST_TOKEN]
+        if shown not in self._wrong:  # An old one that a browser sends again and again isn't a guess.
+            self._wrong.append(shown)
+            guesses.take()
+        return None
+
+    def _guesses_of(self, address: str) -> Bucket:
+        """The guesses of an address, which is used up last again."""
+        place = _network(address)
+        bucket = self._guesses.pop(place, None) or Bucket(GUESSES, GUESSES_A_SECOND)
+        self._guesses[place] = bucket
+        if len(self._guesses) > ADDRESSES:
+            del self._guesses[next(iter(self._guesses))]
+        return bucket
+
+
+def bits(token: str) -> float:
+    """How many bits a random token of this length and these kinds of letters has."""
+    if len(set(token)) < LEAST_LETTERS:
+        return 0.0
+    if all(letter in string.hexdigits for letter in token):
+        return 4.0 * len(token)
+    kinds = (string.digits, string.ascii_lowercase, string.ascii_uppercase)
+    letters = sum(len(kind) for kind in kinds if any(letter in kind for letter in token))
+    if any(letter not in "".join(kinds) for letter in token):
+        letters += len(string.punctuation)
+    return len(token) * math.log2(letters)
+
+
+def _network(address: str) -> str:
+    """An address as one that guesses: of IPv6 the network, since a machine has many addresses in it."""
+    try:
+        place = ipaddress.ip_address(address)
+    except ValueError:
+        return address
+    return str(ipaddress.ip_network(f"{place}/64", strict=False)) if place.version == 6 else address
+
+
+def _is_same(shown: str, token: str) -> bool:
+    # Headers are read with what isn't UTF-8 in them kept.
+    return hmac.compare_digest(shown.encode(errors="surrogateescape"), token.encode())
