@@ -3,7 +3,9 @@
 import configparser
 import logging
 import os
+import shutil
 import socket
+import subprocess
 import tempfile
 import threading
 import unittest
@@ -13,6 +15,7 @@ from unittest import mock
 
 from roman_live.command_line import PATIENCE as PATIENCE_OF_THE_HOME
 from roman_live.command_line import USAGE
+from roman_live.limits import Limits
 from roman_live.systemd import Lines
 
 from . import TOP, sample
@@ -69,14 +72,42 @@ class Service(unittest.TestCase):
 
 
 class Unit(unittest.TestCase):
+    """The units of one home, and of several."""
+
+    def unit(self, name: str) -> configparser.ConfigParser:
+        unit = configparser.ConfigParser(strict=False, interpolation=None)
+        unit.optionxform = str  # type: ignore[assignment]
+        unit.read(TOP / "samples" / "live" / name, encoding="utf-8")
+        return unit
+
     def test_how_it_ends_and_is_started_again(self) -> None:
         """What a device does isn't cut short by a stop, and a wrong file isn't tried for ever."""
-        unit = configparser.ConfigParser(strict=False, interpolation=None)
-        unit.read(TOP / "samples" / "live" / "roman-live.service", encoding="utf-8")
-        service = unit["Service"]
-        self.assertEqual(service["KillMode"], "mixed")
+        service = self.unit("roman-live.service")["Service"]
+        self.assertEqual(service["KillMode"], "process")
         self.assertEqual(service["RestartPreventExitStatus"], str(USAGE))
         self.assertGreater(90, PATIENCE_OF_THE_HOME)  # That of systemd, before it kills.
+
+    def test_its_files(self) -> None:
+        service = self.unit("roman-live.service")["Service"]
+        self.assertGreater(int(service["LimitNOFILE"]), 2 * Limits().connections)
+        self.assertEqual(service["WorkingDirectory"], f"/var/lib/{service['StateDirectory']}")
+
+    def test_several_homes_have_nothing_in_common(self) -> None:
+        one, many = self.unit("roman-live.service"), self.unit("roman-live@.service")
+        differ = {key: many["Service"][key] for key in many["Service"] if many["Service"][key] != one["Service"][key]}
+        expected = {
+            "ExecStart": "/usr/bin/env roman-live /etc/roman/%i.toml",
+            "StateDirectory": "roman-live/%i",
+            "WorkingDirectory": "/var/lib/roman-live/%i",
+        }
+        self.assertEqual(differ, expected)
+
+    @unittest.skipUnless(shutil.which("systemd-analyze"), "there is no systemd")
+    def test_what_it_may_do(self) -> None:
+        """systemd judges how far the units are shut off, from 0 to 10."""
+        for name in ("roman-live.service", "roman-live@.service"):
+            words = ["systemd-analyze", "security", "--offline=true", "--threshold=20", "--no-pager"]
+            subprocess.run([*words, str(TOP / "samples" / "live" / name)], check=True, capture_output=True)
 
 
 class Journal(unittest.TestCase):
