@@ -11,7 +11,7 @@ from roman_client.protocol import Event
 
 from .activity import Activity
 
-PAUSE = 0.05
+PAUSE = 0.2
 """How many seconds pass between two changes that one device reports, or of the environment."""
 
 Post = Callable[[Event[Any]], "asyncio.Future[Any]"]

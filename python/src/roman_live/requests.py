@@ -23,7 +23,7 @@ from .states import done_to_json
 PATIENCE = 300.0
 """How many seconds a request waits for its turn, unless it says another number."""
 
-MOVES = 3
+MOVES = 1
 """How often a request is made again since something moved by itself. After that moves wait for the request."""
 
 EXPIRED, CANCELLED = "expired", "cancelled"

@@ -19,7 +19,7 @@ from urllib.parse import urlsplit
 import pytest
 
 from roman_client import DeviceFailed
-from roman_live import fleet, limits, moves, pictures
+from roman_live import fleet, limits, moves, pictures, requests
 from roman_live.config import Broker, HomeFile
 from roman_live.devices import Answer
 from roman_live.errors import Crowded, NoRoom
@@ -389,7 +389,7 @@ def test_what_waits_is_older_than_an_answer(tmp_path: Path) -> None:
             home.chooser.policy = choose
             with mock.patch.object(moves, "PAUSE", 0.0):
                 assert (await home.requests.serve("brighten"))["state"] == "open"
-            assert len(choices) == 4
+            assert len(choices) == requests.MOVES + 1
             while home.fleet.moves.is_open:
                 await asyncio.sleep(0)
             assert home.known["window"].state == "open"
@@ -422,9 +422,9 @@ def test_too_many_requests_over_mqtt(tmp_path: Path) -> None:
             served.home.fleet.broker = Fake(published)  # type: ignore[assignment]
             heard: dict[str, Any] = {}
             with mock.patch("time.monotonic", lambda: 0.0):
-                requests = MqttRequests(served.home)
+                intake = MqttRequests(served.home)
             with mock.patch.object(Fake, "subscribe", lambda fake, topic, listener: heard.update({topic: listener})):
-                await requests.begin()
+                await intake.begin()
             with mock.patch("time.monotonic", lambda: 0.0):
                 for number in range(100):
                     heard["requests"](json.dumps({"id": number, "action": "sing"}).encode(), False)
