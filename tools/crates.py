@@ -1,13 +1,13 @@
 """The crates of this repository, as crates.txt lists them."""
 
+from collections.abc import Iterable
 from graphlib import TopologicalSorter
 from pathlib import Path
-from typing import Dict, Iterable, List, Set
 
 TOP = Path(__file__).resolve().parents[1]
 
 # Each crate, with the crates or libraries that it stands on.
-Below = Dict[str, List[str]]
+Below = dict[str, list[str]]
 
 
 def parsed(text: str) -> Below:
@@ -22,20 +22,20 @@ def crates() -> Below:
     return parsed((TOP / "crates.txt").read_text(encoding="utf-8"))
 
 
-def in_order(below: Below) -> List[str]:
+def in_order(below: Below) -> list[str]:
     """All crates, each after those that it stands on."""
     return list(TopologicalSorter(below).static_order())
 
 
-def all_below(below: Below) -> Dict[str, Set[str]]:
+def all_below(below: Below) -> dict[str, set[str]]:
     """Of each crate all that it stands on, directly or by others."""
-    found: Dict[str, Set[str]] = {}
+    found: dict[str, set[str]] = {}
     for name in in_order(below):
         found[name] = {*below[name]}.union(*(found[other] for other in below[name]))
     return found
 
 
-def with_above(names: Iterable[str], below: Below, levels: int) -> Set[str]:
+def with_above(names: Iterable[str], below: Below, levels: int) -> set[str]:
     """These crates, and those that stand on them by at most so many steps."""
     found = set(names)
     for _ in range(min(levels, len(below))):

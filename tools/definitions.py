@@ -3,10 +3,11 @@ clauses of `serve` and of the program's `run`, those of the outside that they ar
 
 import hashlib
 import re
+from collections.abc import Iterable, Iterator
 from dataclasses import dataclass, field
 from functools import lru_cache
 from pathlib import Path
-from typing import Dict, Iterable, Iterator, List, NamedTuple, Set, Tuple
+from typing import NamedTuple
 
 from crates import TOP
 
@@ -43,9 +44,9 @@ class Source:
     file: Path
     line: int
     comment: str
-    lines: List[str]
-    names: List[Definition] = field(default_factory=list)
-    words: List[str] = field(default_factory=list)
+    lines: list[str]
+    names: list[Definition] = field(default_factory=list)
+    words: list[str] = field(default_factory=list)
 
     @property
     def text(self) -> str:
@@ -53,7 +54,7 @@ class Source:
         return "\n".join(line for line in self.lines if not re.match(r" *(--|//)", line))
 
 
-Sources = Dict[Definition, Source]
+Sources = dict[Definition, Source]
 
 
 def page_of(file: Path) -> str:
@@ -65,9 +66,9 @@ def is_declared(one: Definition) -> bool:
     return ".src." in one.page
 
 
-def on_page(file: Path) -> Iterator[Tuple[str, Source]]:
+def on_page(file: Path) -> Iterator[tuple[str, Source]]:
     """The definitions of a page, each with all its lines."""
-    comment: List[str] = []
+    comment: list[str] = []
     pattern = HEAD
     source = Source(file, 0, "", [])
     for number, line in enumerate(file.read_text(encoding="utf-8").splitlines(), 1):
@@ -87,9 +88,9 @@ def on_page(file: Path) -> Iterator[Tuple[str, Source]]:
             comment = []
 
 
-def in_source(file: Path) -> Iterator[Tuple[str, Source]]:
+def in_source(file: Path) -> Iterator[tuple[str, Source]]:
     """The public types and constants of a source."""
-    comment: List[str] = []
+    comment: list[str] = []
     left = iter(enumerate(file.read_text(encoding="utf-8").splitlines(), 1))
     for number, line in left:
         head = ITEM.match(line)
@@ -110,12 +111,14 @@ class Imports:
     whole; and words of libraries."""
 
     def __init__(self, text: str) -> None:
-        self.names: Dict[str, Definition] = {}
-        self.pages: Dict[str, str] = {}
-        self.words: Dict[str, str] = {}
+        self.names: dict[str, Definition] = {}
+        self.pages: dict[str, str] = {}
+        self.words: dict[str, str] = {}
         for page, words, alias in IMPORT.findall(text):
             page = page.partition(".")[2]
-            taken = [(word.partition(" as ")[0], word.split(" ")[-1]) for word in re.split(r",\s*", words.strip()) if word]
+            taken = [
+                (word.partition(" as ")[0], word.split(" ")[-1]) for word in re.split(r",\s*", words.strip()) if word
+            ]
             if not page.startswith("roman_"):
                 self.words.update({here: f"{page}.{there}" for there, here in taken or [(alias, alias)]})
             elif DECLARED in page:
@@ -125,7 +128,7 @@ class Imports:
             else:
                 self.names.update({here: Definition(page, there) for there, here in taken})
 
-    def declared(self, page: str, taken: List[Tuple[str, str]]) -> None:
+    def declared(self, page: str, taken: list[tuple[str, str]]) -> None:
         """A name of a page that is made from a source stands for the item there, and so does a variant."""
         crate, _, rest = page.partition(DECLARED)
         modules = [word for word in rest.split(".") if word[0].islower()]
@@ -134,10 +137,12 @@ class Imports:
         self.names.update({here: Definition(module, types[0] if types else there) for there, here in taken})
 
 
-def find_names(source: Source, page: str, imports: Imports, owners: Dict[Definition, Definition], known: Sources) -> None:
+def find_names(
+    source: Source, page: str, imports: Imports, owners: dict[Definition, Definition], known: Sources
+) -> None:
     """Finds what the text of a source names, in its order. The notation `do` stands for the operator `>>=`."""
-    names: Dict[Definition, None] = {}
-    words: Dict[str, None] = {}
+    names: dict[Definition, None] = {}
+    words: dict[str, None] = {}
     for found in NAME.finditer(re.sub(r"\bdo$", ">>=", re.sub(r'"[^"]*"', "", source.text), flags=re.M)):
         word = found[1] or found[0]
         if found[1] in imports.pages:
@@ -159,8 +164,12 @@ def definitions() -> Sources:
     known: Sources = {}
     for file in sorted(CRATES.glob("*/specs/**/*.antt")):
         known.update({Definition(page_of(file), name): source for name, source in on_page(file)})
-    owners = {Definition(one.page, case): one for one, source in known.items() if source.lines[0].startswith("pub data")
-              for case in CASE.findall(source.text)}
+    owners = {
+        Definition(one.page, case): one
+        for one, source in known.items()
+        if source.lines[0].startswith("pub data")
+        for case in CASE.findall(source.text)
+    }
     pages = {one.page: Imports(source.file.read_text(encoding="utf-8")) for one, source in known.items()}
     for file in sorted(CRATES.glob("*/src/**/*.rt")):
         known.update({Definition(page_of(file), name): source for name, source in in_source(file)})
@@ -172,10 +181,12 @@ def definitions() -> Sources:
 
 @lru_cache(maxsize=None)
 def promises() -> Sources:
-    """The clauses of `serve`, `run` and the traits that they are called with, and those of the laws: functions that take
-    nothing."""
+    """The clauses of `serve`, `run` and the traits that they are called with, and those of the laws: functions that
+    take nothing."""
     known = definitions()
-    found: Sources = {one: source for one, source in known.items() if one.name in OUTSIDE and one.page.startswith("roman_io.src.")}
+    found: Sources = {
+        one: source for one, source in known.items() if one.name in OUTSIDE and one.page.startswith("roman_io.src.")
+    }
     for one, source in found.items():
         find_names(source, one.page, Imports(source.file.read_text(encoding="utf-8")), {}, known)
     for file in sorted(CRATES.glob("*/src/**/*.rt")):
@@ -187,7 +198,7 @@ def promises() -> Sources:
     return found
 
 
-def rests_on(roots: Iterable[Definition]) -> Set[Definition]:
+def rests_on(roots: Iterable[Definition]) -> set[Definition]:
     """The definitions to which these lead, themselves among them."""
     known = definitions()
     found = set(roots)
@@ -203,9 +214,15 @@ def digests() -> str:
     """The lines of `tests/pages.sha256`: for each file that the promises rest on, a digest of what it has of them.
     Comments and the layout don't count, and no definition on which no promise rests."""
     known, promised = definitions(), promises()
-    found = {**{one: known[one] for one in rests_on(one for source in promised.values() for one in source.names)}, **promised}
-    texts: Dict[str, List[str]] = {}
+    found = {
+        **{one: known[one] for one in rests_on(one for source in promised.values() for one in source.names)},
+        **promised,
+    }
+    texts: dict[str, list[str]] = {}
     for one, source in sorted(found.items(), key=lambda item: (item[1].file, item[1].line)):
         texts.setdefault(str(source.file.relative_to(TOP)), []).append(
-            " ".join([one.name, *source.text.split(), *source.words]))
-    return "".join(f"{hashlib.sha256(chr(10).join(lines).encode()).hexdigest()}  {file}\n" for file, lines in texts.items())
+            " ".join([one.name, *source.text.split(), *source.words])
+        )
+    return "".join(
+        f"{hashlib.sha256(chr(10).join(lines).encode()).hexdigest()}  {file}\n" for file, lines in texts.items()
+    )

@@ -17,7 +17,7 @@ import os
 import random
 import sys
 from pathlib import Path
-from typing import Any, Dict, List, Optional, Tuple
+from typing import Any
 
 from roman_client import Choice, DeviceFailed, Dispatcher, Document, DocumentError, NoComposition, ProgramEnded, Session
 
@@ -37,23 +37,23 @@ class World:
         self.failing = failing
         self.behaviours = {each.name: document.behaviours[each.behaviour] for each in document.services}
         self.loose = {each.name for each in document.services if each.loose}
-        self.states: Dict[str, str] = {each.name: each.state for each in document.services}
+        self.states: dict[str, str] = {each.name: each.state for each in document.services}
         self.environment = document.environment.start
         self.target = document.start
-        self.away: Dict[str, int] = {}
+        self.away: dict[str, int] = {}
         self.outages = 0
         self.lies = 0
 
-    def allowed(self) -> List[str]:
+    def allowed(self) -> list[str]:
         """The actions that the target allows."""
         return list(self.document.allowed(self.target, self.environment))
 
-    def outcomes(self, service: str, action: str) -> List[Tuple[str, str]]:
+    def outcomes(self, service: str, action: str) -> list[tuple[str, str]]:
         """What may come of an action: the states of the service, with those of the environment."""
         behaviour, state = self.behaviours[service].name, self.states[service]
         return list(self.document.outcomes(behaviour, state, self.environment, action))
 
-    def device(self, service: str, action: str) -> Tuple[str, str]:
+    def device(self, service: str, action: str) -> tuple[str, str]:
         """Carries out an action, fails, or lies."""
         outcomes = self.outcomes(service, action)
         if not outcomes:
@@ -103,7 +103,7 @@ class Demonstration:
         self.served = 0
         self.refused = 0
         self.by_hand = 0
-        self.offered_at: Optional[int] = session.changes if session.opening.composition else None
+        self.offered_at: int | None = session.changes if session.opening.composition else None
         self.dispatcher = Dispatcher(
             session,
             {service: self.device_of(service) for service in world.states},

@@ -6,9 +6,10 @@ import functools
 import logging
 import queue
 import threading
+from collections.abc import Callable, Mapping
 from concurrent.futures import Future
 from types import TracebackType
-from typing import Any, Callable, FrozenSet, Mapping, Optional, Tuple, Type, Union
+from typing import Any
 
 from . import protocol
 from .core import Dispatching, Posted
@@ -44,13 +45,13 @@ class Dispatcher:
     def __init__(
         self,
         session: Session,
-        devices: Mapping[str, Union[Device, Act]],
+        devices: Mapping[str, Device | Act],
         *,
         policy: Policy = first_offered,
-        back: Optional[Back] = None,
-        on_failure: Optional[Callable[[Failure], None]] = None,
-        store: Optional[PathLike] = None,
-        watch: Optional[Watch] = None,
+        back: Back | None = None,
+        on_failure: Callable[[Failure], None] | None = None,
+        store: PathLike | None = None,
+        watch: Watch | None = None,
     ) -> None:
         """For a session between two requests. There is a device for each of its services.
 
@@ -87,7 +88,7 @@ class Dispatcher:
         return self.core.devices
 
     @property
-    def failed(self) -> FrozenSet[str]:
+    def failed(self) -> frozenset[str]:
         """The services that are frozen since they failed, or were when the dispatcher began."""
         return self.core.failed
 
@@ -97,12 +98,12 @@ class Dispatcher:
         return self.core.position.served
 
     @property
-    def under_way(self) -> Optional[Call]:
+    def under_way(self) -> Call | None:
         """What a device is at work on."""
         return self.core.under_way
 
     @property
-    def recovered(self) -> Optional[Recovery]:
+    def recovered(self) -> Recovery | None:
         """What became of the call that was under way when the dispatcher was killed."""
         return self.core.recovered
 
@@ -119,7 +120,7 @@ class Dispatcher:
 
     # Requests.
 
-    def request(self, action: str, key: Optional[str] = None, source: str | None = None) -> Done:
+    def request(self, action: str, key: str | None = None, source: str | None = None) -> Done:
         """Has an action served. Raises `NoComposition`, and `NotAllowed` or `UnknownName` for an action that
         the target doesn't allow here, or that isn't there.
 
@@ -136,7 +137,7 @@ class Dispatcher:
         service: str,
         state: str,
         environment: str,
-        key: Optional[str] = None,
+        key: str | None = None,
         source: str | None = None,
     ) -> Done:
         """Takes a request as served, with that outcome, and asks no device: so a request that was in doubt
@@ -149,7 +150,7 @@ class Dispatcher:
         """Makes a change of `roman_client.protocol`, with its source for the history."""
         return self._in_turn(lambda: self.core.event(event, source=source))
 
-    def thaw(self, service: str, state: Optional[str] = None, source: str | None = None) -> Repair:
+    def thaw(self, service: str, state: str | None = None, source: str | None = None) -> Repair:
         """A frozen service is back, in that state, or in the one that it had."""
         return self._in_turn(lambda: self.core.thaw(service, state, source))
 
@@ -166,7 +167,7 @@ class Dispatcher:
         service: str,
         behaviour: str,
         state: str,
-        device: Union[Device, Act],
+        device: Device | Act,
         *,
         loose: bool = False,
         source: str | None = None,
@@ -200,9 +201,9 @@ class Dispatcher:
 
     def __exit__(
         self,
-        kind: Optional[Type[BaseException]],
-        error: Optional[BaseException],
-        trace: Optional[TracebackType],
+        kind: type[BaseException] | None,
+        error: BaseException | None,
+        trace: TracebackType | None,
     ) -> None:
         self.close()
 
@@ -221,7 +222,7 @@ class Dispatcher:
     def _posted(self, event: Event[Value], cause: Frozen, source: str | None) -> Future[Value]:
         future: Future[Value] = Future()
 
-        def settle(value: Value, error: Optional[BaseException]) -> None:
+        def settle(value: Value, error: BaseException | None) -> None:
             if not future.set_running_or_notify_cancel():
                 return
             if error is None:
@@ -288,7 +289,7 @@ class Dispatcher:
         if isinstance(effect.notice, Failure):
             self._told(self._on_failure, effect.notice)
 
-    def _told(self, listener: Optional[Callable[[Any], None]], notice: Notice) -> None:
+    def _told(self, listener: Callable[[Any], None] | None, notice: Notice) -> None:
         """Tells a listener, whose errors are logged."""
         if listener is None:
             return
@@ -297,7 +298,7 @@ class Dispatcher:
         except Exception:
             LOG.exception("a listener failed at %r", notice)
 
-    _performers: Mapping[Type[Effect], Callable[[Any, Any], Any]] = {
+    _performers: Mapping[type[Effect], Callable[[Any, Any], Any]] = {
         Tell: _tell,
         Restore: lambda self, effect: self.session.restore(effect.snapshot),
         Serve: _serve,
@@ -318,7 +319,7 @@ class Dispatcher:
         late = self._late.get((type(effect), service))
         if late is not None and late.is_alive():
             raise DeviceFailed("is still at work on an earlier call")
-        answers: queue.SimpleQueue[Tuple[Any, Optional[BaseException]]] = queue.SimpleQueue()
+        answers: queue.SimpleQueue[tuple[Any, BaseException | None]] = queue.SimpleQueue()
 
         def answer() -> None:
             try:
@@ -344,6 +345,6 @@ def _nothing() -> Steps[None]:
     yield from ()
 
 
-def as_device(given: Union[Device, Act]) -> Device:
+def as_device(given: Device | Act) -> Device:
     """A device, where a function is given as one."""
     return given if isinstance(given, Device) else FunctionDevice(given, None, None, False)

@@ -7,8 +7,8 @@ promises what the program's report promises, and nothing beyond that.
 from __future__ import annotations
 
 import itertools
+from collections.abc import Iterable, Iterator, Sequence
 from dataclasses import dataclass
-from typing import Iterable, Iterator, Sequence
 
 from . import protocol
 from .documents import Document

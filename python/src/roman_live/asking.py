@@ -3,7 +3,8 @@
 from __future__ import annotations
 
 import sys
-from typing import Any, Mapping, Optional
+from collections.abc import Mapping
+from typing import Any
 
 import aiohttp
 
@@ -13,7 +14,7 @@ from .errors import Nobody, unreached
 SERVED, NOT_SERVED = 0, 1
 
 
-async def ask(file: HomeFile, action: str, key: Optional[str]) -> int:
+async def ask(file: HomeFile, action: str, key: str | None) -> int:
     """Asks for an action, and says what came of it. Gives the status. Raises Nobody where no home answers."""
     page = file.page
     host = {"0.0.0.0": "127.0.0.1", "::": "::1"}.get(page.host, page.host)

@@ -9,7 +9,7 @@ import logging
 import os
 import signal
 import sys
-from typing import Optional, Sequence
+from collections.abc import Sequence
 
 from roman_client import RomanError
 
@@ -78,7 +78,7 @@ def show_history(given: argparse.Namespace) -> int:
     return DONE
 
 
-def main(words: Optional[Sequence[str]] = None) -> int:
+def main(words: Sequence[str] | None = None) -> int:
     """Runs the command that the words name, by default those of the command line, and returns the status."""
     words = sys.argv[1:] if words is None else words
     try:

@@ -6,11 +6,12 @@ import ipaddress
 import os
 import ssl
 import stat
+from collections.abc import Callable, Mapping
 from dataclasses import dataclass, field
 from enum import Enum
 from functools import partial
 from pathlib import Path
-from typing import Any, Callable, Dict, Mapping, Optional, Tuple, Union
+from typing import Any, Union
 
 import tomllib
 
@@ -58,7 +59,7 @@ class Policy:
     """The policy. `costs` is a file, and `requests` how far `least worst` looks ahead."""
 
     choose: PolicyName = PolicyName.FIRST
-    costs: Optional[Path] = None
+    costs: Path | None = None
     requests: int = 8
 
 
@@ -69,9 +70,9 @@ class Page:
 
     host: str = "127.0.0.1"
     port: int = 8080
-    token: Optional[str] = None
-    frame_ancestors: Tuple[str, ...] = ()
-    watch_token: Optional[str] = None
+    token: str | None = None
+    frame_ancestors: tuple[str, ...] = ()
+    watch_token: str | None = None
 
 
 @dataclass(frozen=True)
@@ -79,9 +80,9 @@ class Tls:
     """How a connection is encrypted: whose certificates are believed, None for those that this machine believes
     anyway, and the certificate of this home with its key, where the broker wants one."""
 
-    ca: Optional[Path] = None
-    certificate: Optional[Path] = None
-    key: Optional[Path] = None
+    ca: Path | None = None
+    certificate: Path | None = None
+    key: Path | None = None
 
     def context(self) -> ssl.SSLContext:
         """What a connection is made with. Raises OSError where one of the files is none, or can't be read."""
@@ -97,11 +98,11 @@ class Broker:
 
     host: str = "127.0.0.1"
     port: int = 1883
-    username: Optional[str] = None
-    password: Optional[str] = None
+    username: str | None = None
+    password: str | None = None
     prefix: str = "roman"
-    tls: Optional[Tls] = None
-    discovery: Optional[str] = None
+    tls: Tls | None = None
+    discovery: str | None = None
 
 
 @dataclass(frozen=True)
@@ -128,7 +129,7 @@ class CommandReach:
     """Asked by a command: one for each action, or with `lines` one that is kept and reads lines, which have
     numbers where it is `numbered`."""
 
-    command: Tuple[str, ...]
+    command: tuple[str, ...]
     lines: bool
     folder: Path
     numbered: bool = False
@@ -163,12 +164,12 @@ class DeviceEntry:
     again and again."""
 
     reach: Reach
-    seconds: Optional[float] = None
+    seconds: float | None = None
     repeat: bool = False
     late_is_doubt: bool = False
-    poll: Optional[float] = None
-    title: Optional[str] = None
-    room: Optional[str] = None
+    poll: float | None = None
+    title: str | None = None
+    room: str | None = None
 
     @property
     def reached(self) -> str:
@@ -180,7 +181,7 @@ class DeviceEntry:
 class Words:
     """Words for the people who live there: the title of the home, and words for actions and states."""
 
-    title: Optional[str] = None
+    title: str | None = None
     actions: Mapping[str, str] = field(default_factory=dict)
     states: Mapping[str, str] = field(default_factory=dict)
 
@@ -201,17 +202,17 @@ class HomeFile:
     document: Path
     program: str
     policy: Policy = field(default_factory=Policy)
-    journal: Optional[Path] = None
+    journal: Path | None = None
     page: Page = field(default_factory=Page)
-    mqtt: Optional[Broker] = None
+    mqtt: Broker | None = None
     devices: Mapping[str, DeviceEntry] = field(default_factory=dict)
     program_seconds: float = 120.0
-    environment: Optional[Sensor] = None
+    environment: Sensor | None = None
     words: Words = field(default_factory=Words)
     limits: Limits = field(default_factory=Limits)
 
     @classmethod
-    def read(cls, path: Union[str, "os.PathLike[str]"]) -> HomeFile:
+    def read(cls, path: Union[str, os.PathLike[str]]) -> HomeFile:
         """Reads a home file. Raises HomeFileError with all that is wrong, a line for each."""
         place = Path(os.path.abspath(path))
         try:
@@ -241,7 +242,7 @@ def is_loopback(host: str) -> bool:
 def _home_file(path: Path, table: Table) -> HomeFile:
     """The home as the file describes it, with usual values for what is wrong."""
     folder = path.parent
-    usual: Optional[Broker] = Broker()
+    usual: Broker | None = Broker()
     home = HomeFile(
         path,
         table.attempt(lambda: folder / table.need("document", text, 'document = "home.json"'), folder),
@@ -266,7 +267,7 @@ def _check_topics(home: HomeFile) -> None:
     be told whose question or answer comes on it."""
     own = ("requests", "answers", "environment", "state")
     taken = {} if home.mqtt is None else {f"{home.mqtt.prefix}/{each}": "one of mqtt.prefix" for each in own}
-    reaches: Dict[str, Reach] = {f"devices.{name}": entry.reach for name, entry in home.devices.items()}
+    reaches: dict[str, Reach] = {f"devices.{name}": entry.reach for name, entry in home.devices.items()}
     if home.environment is not None:
         reaches["environment"] = home.environment.map
     for where, reach in reaches.items():
@@ -281,7 +282,7 @@ def _check_topics(home: HomeFile) -> None:
                 taken[place] = f"{where}.{key}"
 
 
-def _policy(table: Optional[Table], folder: Path) -> Policy:
+def _policy(table: Table | None, folder: Path) -> Policy:
     if table is None:
         return Policy()
     names = [each.value for each in PolicyName]
@@ -301,7 +302,7 @@ def _policy(table: Optional[Table], folder: Path) -> Policy:
     return Policy(choose, None if costs is None else folder / costs, 8 if requests is None else requests)
 
 
-def _journal(table: Optional[Table], folder: Path) -> Optional[Path]:
+def _journal(table: Table | None, folder: Path) -> Path | None:
     if table is None:
         return None
     path = table.need("path", text, 'path = "home.db"')
@@ -309,13 +310,13 @@ def _journal(table: Optional[Table], folder: Path) -> Optional[Path]:
     return folder / path
 
 
-def _page(table: Optional[Table], folder: Path) -> Page:
+def _page(table: Table | None, folder: Path) -> Page:
     if table is None:
         return Page()
     host = table.take("host", text, "127.0.0.1")
     port = table.take("port", whole(0, 65535), 8080)
     token, watch_token = (_token(table, key, folder) for key in ("token_file", "watch_token_file"))
-    frames: Tuple[str, ...] = table.take("frame_ancestors", origins, ())
+    frames: tuple[str, ...] = table.take("frame_ancestors", origins, ())
     table.end()
     if watch_token is not None and token is None:
         raise table.wrong("watch_token_file", "is there, and token_file isn't: a token to operate the home")
@@ -326,7 +327,7 @@ def _page(table: Optional[Table], folder: Path) -> Page:
     return Page(host, port, token, frames, watch_token)
 
 
-def _limits(table: Optional[Table]) -> Limits:
+def _limits(table: Table | None) -> Limits:
     if table is None:
         return Limits()
     usual = Limits()
@@ -342,7 +343,7 @@ def _limits(table: Optional[Table]) -> Limits:
     return limits
 
 
-def _broker(table: Optional[Table], folder: Path) -> Optional[Broker]:
+def _broker(table: Table | None, folder: Path) -> Broker | None:
     if table is None:
         return None
     tls = _tls(table.table("tls"), folder)
@@ -361,7 +362,7 @@ def _broker(table: Optional[Table], folder: Path) -> Optional[Broker]:
     return broker
 
 
-def _tls(table: Optional[Table], folder: Path) -> Optional[Tls]:
+def _tls(table: Table | None, folder: Path) -> Tls | None:
     if table is None:
         return None
     names = ("ca_file", "certificate_file", "key_file")
@@ -378,7 +379,7 @@ def _tls(table: Optional[Table], folder: Path) -> Optional[Tls]:
     return tls
 
 
-def _token(table: Table, key: str, folder: Path) -> Optional[str]:
+def _token(table: Table, key: str, folder: Path) -> str | None:
     """A token that can't be guessed, in a file that others can't read."""
     file = table.take(key, text, None)
     if file is None:
@@ -392,10 +393,10 @@ def _token(table: Table, key: str, folder: Path) -> Optional[str]:
     return token
 
 
-def _devices(table: Optional[Table], folder: Path) -> Dict[str, DeviceEntry]:
+def _devices(table: Table | None, folder: Path) -> dict[str, DeviceEntry]:
     if table is None:
         return {}
-    found: Dict[str, DeviceEntry] = {}
+    found: dict[str, DeviceEntry] = {}
     for name, value in table.items():
         entry = table.attempt(partial(_device, table, name, value, folder), None)
         if entry is not None:
@@ -417,7 +418,7 @@ def _device(devices: Table, name: str, value: Any, folder: Path) -> DeviceEntry:
     return DeviceEntry(reach, limit, repeat, late == "doubt", poll, title, room)
 
 
-def _words(title: Optional[str], table: Optional[Table]) -> Words:
+def _words(title: str | None, table: Table | None) -> Words:
     if table is None:
         return Words(title)
     given = {}
@@ -428,7 +429,7 @@ def _words(title: Optional[str], table: Optional[Table]) -> Words:
     return Words(title, given["actions"], given["states"])
 
 
-def _environment(table: Optional[Table], folder: Path) -> Optional[Sensor]:
+def _environment(table: Table | None, folder: Path) -> Sensor | None:
     if table is None:
         return None
     kind = table.need("reach", one_of(tuple(_SENSORS)), "reach = " + " or ".join(f'"{each}"' for each in _SENSORS))

@@ -7,10 +7,11 @@ import json
 import logging
 import secrets
 from collections import deque
+from collections.abc import Mapping
 from dataclasses import dataclass, field
 from datetime import datetime, timezone
 from functools import cached_property
-from typing import Any, Deque, Dict, List, Mapping, Optional, Set, Tuple
+from typing import Any, Deque, Optional
 
 from .limits import Bucket
 
@@ -54,7 +55,7 @@ class Event:
     text: str
     details: Mapping[str, Any] = field(default_factory=dict)
 
-    def to_json(self) -> Dict[str, Any]:
+    def to_json(self) -> dict[str, Any]:
         """The event as JSON."""
         return {
             "id": self.number,
@@ -71,7 +72,7 @@ class Message:
 
     name: str
     value: Any
-    mark: Optional[str] = None
+    mark: str | None = None
 
     @cached_property
     def encoded(self) -> bytes:
@@ -91,8 +92,8 @@ class EventLog:
         self.run = secrets.token_hex(8)
         self._next = 1
         self._kept: Deque[Event] = deque(maxlen=KEPT)
-        self._listeners: Set[Listener] = set()
-        self._buckets: Dict[Tuple[str, Any], Bucket] = {}
+        self._listeners: set[Listener] = set()
+        self._buckets: dict[tuple[str, Any], Bucket] = {}
 
     def add(self, kind: str, text: str, *, level: int = logging.INFO, **details: Any) -> None:
         """Something happened, which is logged on that level. What comes from outside too often is left out."""
@@ -121,7 +122,7 @@ class EventLog:
             else:
                 listener.put_nowait(message)
 
-    def after(self, mark: str) -> List[Event]:
+    def after(self, mark: str) -> list[Event]:
         """The kept events after the one with that mark. All, if this run has none with it."""
         run, _, number = mark.partition("-")
         known = run == self.run and number.isdecimal() and len(number) <= LONGEST_NUMBER
@@ -150,7 +151,7 @@ class EventLog:
         return len(self._listeners)
 
 
-async def heard(listener: Listener, seconds: float) -> List[Optional[Message]]:
+async def heard(listener: Listener, seconds: float) -> list[Message | None]:
     """What waits for a listener. If nothing does, waits that long for something, and then gives nothing."""
     try:
         async with asyncio.timeout(seconds):

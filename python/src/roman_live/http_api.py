@@ -8,9 +8,10 @@ import hashlib
 import html
 import json
 import re
+from collections.abc import Awaitable, Callable, Mapping
 from http import HTTPStatus
 from pathlib import Path
-from typing import Any, Awaitable, Callable, Dict, Mapping, Optional, Tuple
+from typing import Any
 from urllib.parse import parse_qs, urlsplit
 
 from aiohttp import web
@@ -56,9 +57,9 @@ class Server:
         self._limits = home.file.limits
         self._access = Access(page.token, page.watch_token)
         self._picture = Picture(home.file.document)
-        self._runner: Optional[web.AppRunner] = None
-        self._gate: Optional[Gate] = None
-        self._listening: Optional[asyncio.AbstractServer] = None
+        self._runner: web.AppRunner | None = None
+        self._gate: Gate | None = None
+        self._listening: asyncio.AbstractServer | None = None
 
     async def begin(self) -> None:
         """Begins to listen. Raises NoPage where that can't be."""
@@ -159,7 +160,7 @@ class Server:
             if host is None or not (is_loopback(host) or host == self.page.host):
                 raise web.HTTPForbidden(text="another name than that of this machine was called")
 
-    def _enter(self, request: web.Request) -> Optional[web.Response]:
+    def _enter(self, request: web.Request) -> web.Response | None:
         """Checks the token, and the role that it gives. One who shows it in the address of the page is let in, and has
         it in a cookie from then on."""
         if self._access.is_open:
@@ -244,7 +245,7 @@ class Server:
 
     async def _send_events(self, response: web.StreamResponse, listener: Listener, last: str) -> None:
         """Sends events to a listener until it is let go. Raises TimeoutError if it doesn't read them."""
-        messages: list[Optional[Message]] = [self.home.events.message(each) for each in self.home.events.after(last)]
+        messages: list[Message | None] = [self.home.events.message(each) for each in self.home.events.after(last)]
         messages.append(Message("state", await self.home.shown.state()))
         while True:
             data = b"".join(each.encoded for each in messages if each is not None)
@@ -353,7 +354,7 @@ class Server:
         return _json(await self.home.shown.state())
 
 
-def expiry(value: Any) -> Optional[float]:
+def expiry(value: Any) -> float | None:
     """How many seconds a request waits at most. None if the value is no such number."""
     if value is None:
         return PATIENCE
@@ -367,8 +368,8 @@ def _source(request: web.Request) -> str:
 
 
 async def result(
-    home: Home, action: str, key: Optional[str], wait: bool, *, expires: float = PATIENCE, source: Optional[str] = None
-) -> Tuple[HTTPStatus, Dict[str, Any]]:
+    home: Home, action: str, key: str | None, wait: bool, *, expires: float = PATIENCE, source: str | None = None
+) -> tuple[HTTPStatus, dict[str, Any]]:
     """Has an action served, and gives the status and the JSON of the result."""
     try:
         return HTTPStatus.OK, await home.requests.serve(action, key, wait, expires=expires, source=source)
@@ -456,7 +457,7 @@ def _text(body: Mapping[str, Any], name: str) -> str:
     return value
 
 
-def _optional_text(body: Mapping[str, Any], name: str) -> Optional[str]:
+def _optional_text(body: Mapping[str, Any], name: str) -> str | None:
     return None if body.get(name) is None else _text(body, name)
 
 
@@ -467,7 +468,7 @@ def _flag(body: Mapping[str, Any], name: str, otherwise: bool) -> bool:
     return value
 
 
-def _policy_of(page: str, frames: Tuple[str, ...] = (), forms: str = "'none'") -> str:
+def _policy_of(page: str, frames: tuple[str, ...] = (), forms: str = "'none'") -> str:
     """The policy for a page that has nothing but what stands in it, and whose forms lead there."""
 
     def hashes(element: str) -> str:

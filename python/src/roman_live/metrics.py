@@ -2,7 +2,7 @@
 
 from __future__ import annotations
 
-from typing import Iterable, Tuple
+from collections.abc import Iterable
 
 from prometheus_client import CollectorRegistry, Counter, Gauge, Histogram, generate_latest
 
@@ -26,7 +26,7 @@ class Metrics:
             "roman_service", "1 for the status of each service", ["service", "status"], registry=registry
         )
 
-    def show(self, served: int, composes: bool, services: Iterable[Tuple[str, str]]) -> None:
+    def show(self, served: int, composes: bool, services: Iterable[tuple[str, str]]) -> None:
         """Takes the present figures, and the status of each service."""
         self.served.set(served)
         self.composes.set(composes)

@@ -8,7 +8,8 @@ import json
 import logging
 import ssl
 from collections import deque
-from typing import Any, Callable
+from collections.abc import Callable
+from typing import Any
 
 import paho.mqtt.client as mqtt  # type: ignore[import]
 

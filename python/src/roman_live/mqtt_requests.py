@@ -4,7 +4,7 @@ from __future__ import annotations
 
 import asyncio
 import json
-from typing import Any, Dict, Optional, Set
+from typing import Any
 
 from .askers import ASKER, name_of
 from .home import Home
@@ -24,7 +24,7 @@ class MqttRequests:
 
     def __init__(self, home: Home) -> None:
         self._home = home
-        self._tasks: Set[asyncio.Task[None]] = set()
+        self._tasks: set[asyncio.Task[None]] = set()
         rate = home.file.limits.messages
         self._messages = Bucket(rate, rate)
 
@@ -48,7 +48,7 @@ class MqttRequests:
         self._tasks.add(task)
         task.add_done_callback(self._tasks.discard)
 
-    async def _serve(self, value: Optional[Dict[str, Any]]) -> None:
+    async def _serve(self, value: dict[str, Any] | None) -> None:
         value = value or {}
         if isinstance(value.get("cancel"), str):
             self._home.requests.cancel(value["cancel"])
@@ -61,8 +61,8 @@ class MqttRequests:
         status, answer = await result(self._home, action, key, True, expires=expires, source="mqtt")
         self._publish(value.get("id"), status, answer)
 
-    def _publish(self, number: Any, status: int, answer: Dict[str, Any]) -> None:
-        broker: Optional[Connection] = self._home.fleet.broker
+    def _publish(self, number: Any, status: int, answer: dict[str, Any]) -> None:
+        broker: Connection | None = self._home.fleet.broker
         assert broker is not None
         broker.publish(broker.topic("answers"), {**answer, "id": number, "status": int(status)})
 
@@ -75,7 +75,7 @@ class MqttRequests:
             self._home.events.add("wrong", "the environment's topic has no state")
 
 
-def _object(payload: bytes) -> Optional[Dict[str, Any]]:
+def _object(payload: bytes) -> dict[str, Any] | None:
     """The object of JSON that these bytes are."""
     try:
         value = json.loads(payload)

@@ -5,8 +5,8 @@ from __future__ import annotations
 import asyncio
 import logging
 import tempfile
+from collections.abc import Awaitable, Callable, Mapping
 from pathlib import Path
-from typing import Awaitable, Callable, Dict, List, Mapping, Tuple
 
 from roman_client import Document, LeastCost, Report, RomanError, aio, first_offered
 from roman_client.policies import Choice
@@ -60,7 +60,7 @@ class RoundRobin:
     """Takes the offered service that was taken least recently for this action."""
 
     def __init__(self) -> None:
-        self._taken: Dict[Tuple[str, str], int] = {}
+        self._taken: dict[tuple[str, str], int] = {}
         self._count = 0
 
     async def __call__(self, choice: Choice) -> str:
@@ -82,7 +82,7 @@ class LeastWorst:
         self._program = program
         self._seconds = seconds
         self._otherwise = otherwise
-        self._known: Dict[Tuple[str, ...], Mapping[str, str]] = {}
+        self._known: dict[tuple[str, ...], Mapping[str, str]] = {}
 
     async def __call__(self, choice: Choice) -> str:
         try:
@@ -134,7 +134,7 @@ class LeastWorst:
         return advice_of(output.decode(errors="replace").splitlines())
 
 
-def _states(report: Report) -> Tuple[str, ...]:
+def _states(report: Report) -> tuple[str, ...]:
     """All that the advice depends on."""
     services = (
         word
@@ -144,7 +144,7 @@ def _states(report: Report) -> Tuple[str, ...]:
     return (report.target, report.environment, *services)
 
 
-def advice_of(lines: List[str]) -> Dict[str, str]:
+def advice_of(lines: list[str]) -> dict[str, str]:
     """The service for each action, of the lines `for ACTION: SERVICE COST`."""
     advice = {}
     for line in lines:

@@ -4,8 +4,8 @@ from __future__ import annotations
 
 import asyncio
 import contextlib
+from collections.abc import Awaitable, Callable
 from datetime import datetime, timedelta, timezone
-from typing import Awaitable, Callable, Dict, Optional
 
 from .devices import Answer
 from .registry import Knowledge
@@ -17,7 +17,7 @@ LONGEST_PAUSE = 60.0
 """The longest such pause."""
 
 
-async def pause_until(poke: asyncio.Event, seconds: Optional[float]) -> None:
+async def pause_until(poke: asyncio.Event, seconds: float | None) -> None:
     """Waits so long, None for ever, or until somebody pokes."""
     with contextlib.suppress(asyncio.TimeoutError):
         await asyncio.wait_for(poke.wait(), seconds)
@@ -30,7 +30,7 @@ class Returning:
         self,
         known: Knowledge,
         held: Callable[[], frozenset[str]],
-        told: Callable[[str], Awaitable[Optional[Answer]]],
+        told: Callable[[str], Awaitable[Answer | None]],
         back: Callable[[str, Answer], Awaitable[bool]],
         changed: Callable[[], None],
         *,
@@ -45,8 +45,8 @@ class Returning:
         self._back = back
         self._changed = changed
         self._by_hand = by_hand
-        self._pokes: Dict[str, asyncio.Event] = {}
-        self.tasks: Dict[str, asyncio.Task[None]] = {}
+        self._pokes: dict[str, asyncio.Event] = {}
+        self.tasks: dict[str, asyncio.Task[None]] = {}
 
     def let_all(self, at_once: bool = False) -> None:
         """Asks all services again that are frozen, and weren't frozen by hand."""
@@ -94,7 +94,7 @@ class Returning:
     async def _return(self, service: str) -> None:
         """Asks a service with growing pauses, and at once where it said something, until it is back."""
         known, poke = self._known[service], self._pokes[service]
-        pause: Optional[float] = min(LONGEST_PAUSE, FIRST_PAUSE * 2 ** min(max(known.failures, 1) - 1, 16))
+        pause: float | None = min(LONGEST_PAUSE, FIRST_PAUSE * 2 ** min(max(known.failures, 1) - 1, 16))
         while True:
             if pause is not None:
                 due = datetime.now(timezone.utc) + timedelta(seconds=pause)

@@ -2,7 +2,8 @@
 
 from __future__ import annotations
 
-from typing import Any, Dict, List, Optional, Sequence
+from collections.abc import Sequence
+from typing import Any
 
 from roman_client import Document, Done, Explanation, Failure, Report, Service
 
@@ -14,7 +15,7 @@ def is_stuck(document: Document, report: Report) -> bool:
     return not report.final and not document.allowed(report.target, report.environment)
 
 
-def target_to_json(document: Document, report: Report) -> Dict[str, Any]:
+def target_to_json(document: Document, report: Report) -> dict[str, Any]:
     """The target's state, and the states of all targets."""
     parts = zip(document.targets, document.target_states(report.target))
     return {
@@ -25,7 +26,7 @@ def target_to_json(document: Document, report: Report) -> Dict[str, Any]:
     }
 
 
-def actions_to_json(document: Document, report: Report) -> List[Dict[str, Any]]:
+def actions_to_json(document: Document, report: Report) -> list[dict[str, Any]]:
     """Each action that may be requested, with who may serve it, or why it isn't allowed."""
     allowed = document.allowed(report.target, report.environment)
     actions = []
@@ -50,13 +51,13 @@ def actions_to_json(document: Document, report: Report) -> List[Dict[str, Any]]:
     return actions
 
 
-def states_after(document: Document, report: Report, service: Service, action: str) -> List[str]:
+def states_after(document: Document, report: Report, service: Service, action: str) -> list[str]:
     """The states in which a service may be after an action."""
     outcomes = document.outcomes(service.behaviour, service.state, report.environment, action)
     return list(dict.fromkeys(state for state, _ in outcomes))
 
 
-def explanation_to_json(explanation: Explanation) -> Dict[str, Any]:
+def explanation_to_json(explanation: Explanation) -> dict[str, Any]:
     """Why there is no composition: each entry is lost by those before it, and the last is the present."""
     return {
         "text": str(explanation),
@@ -75,12 +76,12 @@ def explanation_to_json(explanation: Explanation) -> Dict[str, Any]:
     }
 
 
-def failures_to_json(failures: Sequence[Failure]) -> List[Dict[str, str]]:
+def failures_to_json(failures: Sequence[Failure]) -> list[dict[str, str]]:
     """Which services failed at a request, and how."""
     return [{"service": each.service, "error": each.text} for each in failures]
 
 
-def done_to_json(done: Done, number: Optional[int]) -> Dict[str, Any]:
+def done_to_json(done: Done, number: int | None) -> dict[str, Any]:
     """A request that was served."""
     return {
         "id": number,

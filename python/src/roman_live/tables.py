@@ -4,8 +4,9 @@ from __future__ import annotations
 
 import difflib
 import re
+from collections.abc import Callable, Iterable, Sequence
 from pathlib import Path
-from typing import Any, Callable, Dict, Iterable, List, Optional, Sequence, Tuple, TypeVar
+from typing import Any, TypeVar
 from urllib.parse import urlsplit
 
 Value = TypeVar("Value")
@@ -23,21 +24,21 @@ class Table:
     """A table of the file. What is read of it is taken out, so that what is left is unknown. Wrong values are
     collected in `errors`, which all tables of a file share."""
 
-    def __init__(self, name: str, value: Any, errors: List[str]) -> None:
+    def __init__(self, name: str, value: Any, errors: list[str]) -> None:
         if not isinstance(value, dict):
             raise HomeFileError(f"{name} isn't a table")
         self.name = name
         self.errors = errors
         self.is_wrong = False
         """Whether one of its values is wrong."""
-        self._rest: Dict[str, Any] = dict(value)
-        self._known: Dict[str, None] = {}
+        self._rest: dict[str, Any] = dict(value)
+        self._known: dict[str, None] = {}
 
     def has(self, key: str) -> bool:
         """Whether a key is there that wasn't read yet."""
         return key in self._rest
 
-    def names(self) -> Tuple[str, ...]:
+    def names(self) -> tuple[str, ...]:
         """The keys that weren't read yet."""
         return tuple(self._rest)
 
@@ -85,14 +86,14 @@ class Table:
             raise self.wrong(key, f"is missing, as in {example}{meant}")
         return value
 
-    def table(self, key: str) -> Optional[Table]:
+    def table(self, key: str) -> Table | None:
         """The table below a key, where there is one."""
         self._known[key] = None
         if key not in self._rest:
             return None
         return Table(self.key(key), self._rest.pop(key), self.errors)
 
-    def items(self) -> Iterable[Tuple[str, Any]]:
+    def items(self) -> Iterable[tuple[str, Any]]:
         """All that is left."""
         rest, self._rest = self._rest, {}
         return rest.items()
@@ -148,7 +149,7 @@ def one_of(words: Sequence[str]) -> Callable[[Any], str]:
     return read
 
 
-def words(value: Any) -> Tuple[str, ...]:
+def words(value: Any) -> tuple[str, ...]:
     """A list of texts, one at least."""
     if not isinstance(value, list) or not value or not all(isinstance(each, str) for each in value):
         raise ValueError('a list of texts, as ["./lamp", "--quiet"]')
@@ -167,7 +168,7 @@ def url(value: Any) -> str:
     return str(value)
 
 
-def origins(value: Any) -> Tuple[str, ...]:
+def origins(value: Any) -> tuple[str, ...]:
     """A list of origins, as those of pages."""
     found = words(value)
     if not all(re.fullmatch(r"https?://[\w.*:\[\]-]+", each) for each in found):
@@ -182,7 +183,7 @@ def topic(value: Any) -> str:
     return value
 
 
-def function(value: Any) -> Tuple[str, str]:
+def function(value: Any) -> tuple[str, str]:
     """A module and a name in it."""
     module, colon, name = value.partition(":") if isinstance(value, str) else ("", "", "")
     if not colon or not name.isidentifier() or not all(part.isidentifier() for part in module.split(".")):
@@ -190,7 +191,7 @@ def function(value: Any) -> Tuple[str, str]:
     return module, name
 
 
-def secret(table: Table, key: str, folder: Path) -> Optional[str]:
+def secret(table: Table, key: str, folder: Path) -> str | None:
     """The first line of the file that a key names."""
     file = table.take(key, text, None)
     return None if file is None else first_line(table, key, folder, file)

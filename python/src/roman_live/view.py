@@ -6,7 +6,8 @@ import asyncio
 import contextlib
 import json
 import logging
-from typing import TYPE_CHECKING, Any, Callable, Dict, List, Optional, Tuple
+from collections.abc import Callable
+from typing import TYPE_CHECKING, Any
 
 from roman_client import Explanation, Report, RomanError, SessionOver
 
@@ -32,15 +33,15 @@ class Shown:
 
     def __init__(self, home: Home) -> None:
         self._home = home
-        self.listener: Optional[Callable[[str], None]] = None
+        self.listener: Callable[[str], None] | None = None
         """Is told in a line how it is with the home, whenever that may have changed."""
         self._report = home.session.opening
-        self._explained: Optional[Tuple[Report, Optional[Explanation]]] = None
+        self._explained: tuple[Report, Explanation | None] | None = None
         self._stuck = False
         self._remedies = Remedies(home.document, home.session.core.words)
         self._discovery = self._make_discovery()
 
-    def _make_discovery(self) -> Optional[Discovery]:
+    def _make_discovery(self) -> Discovery | None:
         """The messages for Home Assistant, if the home file asks for them."""
         broker = self._home.fleet.broker
         if broker is None or broker.broker.discovery is None:
@@ -49,7 +50,7 @@ class Shown:
         broker.subscribe(f"{prefix}/status", self._hear_status)
         return Discovery(self._home.file, self._home.document, broker, prefix)
 
-    async def state(self) -> Dict[str, Any]:
+    async def state(self) -> dict[str, Any]:
         """The present state as JSON."""
         report = await self._present_report()
         explanation = await self._explanation(report)
@@ -85,11 +86,11 @@ class Shown:
         self._home.metrics.show(self._home.dispatcher.served, report.composition, services)
         return self._home.metrics.text()
 
-    async def remedies(self) -> Dict[str, Any]:
+    async def remedies(self) -> dict[str, Any]:
         """What would help where there is no composition."""
         return await self._remedies.of(await self._present_report())
 
-    async def allowed(self) -> List[str]:
+    async def allowed(self) -> list[str]:
         """The actions that are offered now."""
         report = await self._present_report()
         return list(report.offers)
@@ -107,13 +108,13 @@ class Shown:
         self._stuck = stuck
         return self._report
 
-    async def _explanation(self, report: Report) -> Optional[Explanation]:
+    async def _explanation(self, report: Report) -> Explanation | None:
         """Why there is no composition, where there is none and no request is open."""
         if report.composition or self._home.requests.open:
             return None
         if self._explained is None or self._explained[0] != report:
             try:
-                explanation: Optional[Explanation] = await self._home.reply(self._home.session.explain())
+                explanation: Explanation | None = await self._home.reply(self._home.session.explain())
             except RomanError:
                 return None
             self._explained = (report, explanation)
@@ -127,7 +128,7 @@ class Shown:
             return "under way"
         return "frozen" if known.frozen else "ready"
 
-    def _service_to_json(self, name: str) -> Dict[str, Any]:
+    def _service_to_json(self, name: str) -> dict[str, Any]:
         known = self._home.known[name]
         device = self._home.fleet.devices.get(name)
         entry = self._home.file.devices.get(name)
@@ -147,12 +148,12 @@ class Shown:
             "next_try": known.next_try,
         }
 
-    def _request_to_json(self, report: Report) -> Optional[Dict[str, Any]]:
+    def _request_to_json(self, report: Report) -> dict[str, Any] | None:
         """What is under way; with simulated devices the possible outcomes, too."""
         if self._home.activity.call is None:
             return None
         call, since = self._home.activity.call
-        shown: Dict[str, Any] = {
+        shown: dict[str, Any] = {
             "id": self._home.fleet.number(call),
             "action": call.request,
             "service": call.service,
@@ -168,7 +169,7 @@ class Shown:
             ]
         return shown
 
-    async def opening(self) -> Optional[str]:
+    async def opening(self) -> str | None:
         """Why there is no composition at the start, if there is none."""
         report = await self._present_report()
         explanation = await self._explanation(report)
@@ -219,7 +220,7 @@ class Shown:
             self._discovery.hear_status(payload, retained)
             self._home.dirty.set()
 
-    async def _summary(self) -> Dict[str, Any]:
+    async def _summary(self) -> dict[str, Any]:
         """The state in short, for others on the broker."""
         report = await self._present_report()
         return {

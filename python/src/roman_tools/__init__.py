@@ -6,9 +6,9 @@
 
 import os
 import sys
+from collections.abc import Callable
 from importlib.util import find_spec
 from pathlib import Path
-from typing import Callable
 
 UNWRITTEN = 7
 """The status of a tool whose output couldn't be written."""

@@ -2,9 +2,10 @@
 
 from __future__ import annotations
 
+from collections.abc import Callable, Iterator
 from dataclasses import replace
 from functools import partial
-from typing import Callable, Iterator, List, Optional, Set, Tuple
+from typing import Optional
 
 from .checks import MEMBERS, Checker, Part
 from .findings import Finding, Level, grouped, in_order, meant
@@ -64,13 +65,13 @@ def ignored(part: Part, version: int) -> Iterator[Finding]:
 Mended = Callable[[], System]
 """Makes the system as it would be without the cause of a finding."""
 
-Judged = Tuple[Finding, Optional[Mended]]
+Judged = tuple[Finding, Optional[Mended]]
 
 
 class Judge:
     """Judges a system that breaks no rule."""
 
-    def __init__(self, system: System, known: Optional[Walk] = None) -> None:
+    def __init__(self, system: System, known: Walk | None = None) -> None:
         """With the walk of a system, which is taken if this one has the same environment and targets."""
         self.system = system
         self.environment = system.environment
@@ -81,7 +82,7 @@ class Judge:
         is_same = is_same and known is not None and known.system.targets is system.targets
         self.walk = known if known is not None and is_same else Walk(system)
 
-    def live_of(self, machine: Machine) -> List[Step]:
+    def live_of(self, machine: Machine) -> list[Step]:
         """The steps that some state of the environment allows."""
         return [step for step in machine.steps if step.guard & self.taken[step.action]]
 
@@ -144,7 +145,7 @@ class Judge:
                 )
                 yield replace(warning(name.span, message), part=part), None
 
-    def steps(self, machine: Machine, owner: str, part: Tuple[str, int]) -> Iterator[Judged]:
+    def steps(self, machine: Machine, owner: str, part: tuple[str, int]) -> Iterator[Judged]:
         """Steps that can never be taken for their guard. A guard that is written as false is meant to be."""
         for number, step in enumerate(machine.steps):
             action = self.environment.actions[step.action].text
@@ -176,7 +177,7 @@ class Judge:
                 )
                 yield warning(service.name.span, message), None
 
-    def left_in(self) -> Optional[Name]:
+    def left_in(self) -> Name | None:
         """A state in which the target may be left. Several targets are, where each of them may be."""
         found = None
         for seat, target in enumerate(self.system.targets):
@@ -198,7 +199,7 @@ class Judge:
             name = target.states[state]
             message = f'{title} never comes into "{name.text}", which is final: the environment allows no way there'
             yield warning(name.span, message), None
-        stuck: dict[int, List[Stuck]] = {}
+        stuck: dict[int, list[Stuck]] = {}
         for each in self.walk.stuck():
             if each.target == seat:
                 stuck.setdefault(each.pair.targets[seat], []).append(each)
@@ -207,7 +208,7 @@ class Judge:
         if target.finals & reached:
             yield from self.without_final(title, seat)
 
-    def stuck(self, title: str, seat: int, state: int, places: List[Stuck]) -> Judged:
+    def stuck(self, title: str, seat: int, state: int, places: list[Stuck]) -> Judged:
         """A state in which nothing is allowed in some states of the environment, with the way to the nearest one."""
         target, first = self.system.targets[seat], places[0]
         come = f"; the way there: {', '.join(first.way)}" if first.way else ""
@@ -252,7 +253,7 @@ MOST_STEPS = 1_000_000
 """About how many steps of targets are walked for that."""
 
 
-def judged(system: System) -> List[Finding]:
+def judged(system: System) -> list[Finding]:
     """The findings in a system, each cause before what follows from it: that is what wouldn't be found without it."""
     judge = Judge(system)
     mends = dict(judge.judged())
@@ -279,7 +280,7 @@ def root_of(finding: Finding, causes: dict[Finding, Finding]) -> Finding:
     return finding
 
 
-def unreached(title: str, states: List[Name], reached: Set[int]) -> Iterator[Judged]:
+def unreached(title: str, states: list[Name], reached: set[int]) -> Iterator[Judged]:
     """The states that are never reached. Those that come from one word are told where none of them is."""
     known = {state.span for number, state in enumerate(states) if number in reached}
     for state in states:

@@ -4,8 +4,8 @@ from __future__ import annotations
 
 import itertools
 import re
+from collections.abc import Iterator, Sequence
 from dataclasses import dataclass, field
-from typing import Dict, Iterator, List, Optional, Sequence, Tuple
 
 from roman_client.documents import LONGEST_DOCUMENT
 
@@ -42,10 +42,10 @@ class Part:
 class Names:
     """A list of names as it stands, also where some of it is wrong."""
 
-    known: List[Name] = field(default_factory=list)
+    known: list[Name] = field(default_factory=list)
     sure: bool = False
     """Whether nothing else may be meant to be in it."""
-    numbers: Dict[str, int] = field(default_factory=dict)
+    numbers: dict[str, int] = field(default_factory=dict)
 
     def add(self, name: Name) -> None:
         self.numbers.setdefault(name.text, len(self.known))
@@ -55,29 +55,29 @@ class Names:
 class Checker:
     """Reads a document, and collects what the format refuses."""
 
-    def __init__(self, name: str, shelf: Optional[Shelf] = None) -> None:
+    def __init__(self, name: str, shelf: Shelf | None = None) -> None:
         self.name = name
         self.shelf = shelf or Shelf()
-        self.findings: List[Finding] = []
-        self.parts: List[Part] = []
+        self.findings: list[Finding] = []
+        self.parts: list[Part] = []
         """The parts that are objects."""
-        self.values: List[Value] = []
+        self.values: list[Value] = []
         """What each file holds."""
         self.version = 0
         self.short = False
         """Whether the document is in the short form."""
-        self.patterns: Dict[str, str] = {}
+        self.patterns: dict[str, str] = {}
         """The behaviours that are made from patterns, each with its pattern."""
-        self.system: Optional[System] = None
+        self.system: System | None = None
         """The system, where nothing is refused."""
 
     # Findings.
 
     def refuse(
         self,
-        where: Tuple[str, str, int],
+        where: tuple[str, str, int],
         kind: str,
-        at: Tuple[str, int],
+        at: tuple[str, int],
         span: Span,
         message: str,
         more: str = "",
@@ -86,12 +86,12 @@ class Checker:
         refusal = Refusal(where[0], kind, where[1], where[2], at[0], at[1], more)
         self.findings.append(Finding(span, Level.ERROR, message, refusal))
 
-    def fault(self, part: Part, kind: str, at: Tuple[str, int], span: Span, message: str) -> None:
+    def fault(self, part: Part, kind: str, at: tuple[str, int], span: Span, message: str) -> None:
         self.refuse((part.document, part.word, part.number), kind, at, span, message)
 
     # Files.
 
-    def fetch(self, name: str, where: Tuple[str, str, int]) -> Optional[Value]:
+    def fetch(self, name: str, where: tuple[str, str, int]) -> Value | None:
         """The value of a file, which a refusal of that part would name."""
         source, size = self.shelf.source(name)
         if size > LONGEST_DOCUMENT:
@@ -107,7 +107,7 @@ class Checker:
             self.refuse(where, "notjson", ("whole", 0), broken.span, broken.message)
             return None
 
-    def part(self, value: Value, word: str, number: int, title: str) -> Optional[Part]:
+    def part(self, value: Value, word: str, number: int, title: str) -> Part | None:
         """A part that is an object, from its file where it is given by one."""
         document = self.name
         if isinstance(value, Members) and "file" in value.last:
@@ -144,7 +144,7 @@ class Checker:
 
     # What all parts have.
 
-    def member(self, part: Part, name: str) -> Optional[Value]:
+    def member(self, part: Part, name: str) -> Value | None:
         """A member that has to be there."""
         value = part.value.get(name)
         if value is None:
@@ -152,7 +152,7 @@ class Checker:
             self.fault(part, "missing", (name, 0), part.value.span.head, message)
         return value
 
-    def items(self, part: Part, name: str, least: int, most: int, what: str) -> Optional[Items]:
+    def items(self, part: Part, name: str, least: int, most: int, what: str) -> Items | None:
         """A member that is a list of so many items."""
         value = self.member(part, name)
         if value is None:
@@ -170,16 +170,14 @@ class Checker:
             message = f'"{name}" has {least:,} to {most:,} {what}, and here are {count:,}'
             self.fault(part, "count", (name, 0), value.span, message)
 
-    def text(self, part: Part, value: Value, at: Tuple[str, int], what: str) -> Optional[Text]:
+    def text(self, part: Part, value: Value, at: tuple[str, int], what: str) -> Text | None:
         """A value that is a text."""
         if isinstance(value, Text):
             return value
         self.fault(part, "form", at, value.span, f"{what} is a text, and {value.word} stands here")
         return None
 
-    def new_name(
-        self, part: Part, value: Value, at: Tuple[str, int], what: str, taken: Dict[str, Span]
-    ) -> Optional[Name]:
+    def new_name(self, part: Part, value: Value, at: tuple[str, int], what: str, taken: dict[str, Span]) -> Name | None:
         """A name that is given here, by the rule of names, and by nobody before."""
         text = self.text(part, value, at, what)
         if text is None:
@@ -194,7 +192,7 @@ class Checker:
         taken.setdefault(text.text, text.span)
         return Name(text.text, text.span)
 
-    def title(self, part: Part, what: str, taken: Dict[str, Span]) -> Optional[Name]:
+    def title(self, part: Part, what: str, taken: dict[str, Span]) -> Name | None:
         """The member `name` of a part, which titles it from then on."""
         value = self.member(part, "name")
         if value is None:
@@ -211,7 +209,7 @@ class Checker:
         if value is None:
             return names
         names.sure = True
-        taken: Dict[str, Span] = {}
+        taken: dict[str, Span] = {}
         for index, item in enumerate(value.items):
             found = self.new_name(part, item, (name, index), "a name", taken)
             if found is None:
@@ -220,7 +218,7 @@ class Checker:
                 names.add(found)
         return names
 
-    def known(self, part: Part, value: Value, at: Tuple[str, int], what: str, names: Names) -> Optional[int]:
+    def known(self, part: Part, value: Value, at: tuple[str, int], what: str, names: Names) -> int | None:
         """The number of a name that has to be in a list."""
         text = self.text(part, value, at, f"the name of {what}")
         if text is None:
@@ -237,7 +235,7 @@ class Checker:
             return 0
         return self.known(part, value, ("start", 0), f"a state of {part.title}", names) or 0
 
-    def steps(self, part: Part, form: str) -> Iterator[Tuple[int, Items]]:
+    def steps(self, part: Part, form: str) -> Iterator[tuple[int, Items]]:
         """The steps that are lists of the right length, with their numbers, each judged when its turn comes."""
         length = form.count(",") + 1
         value = self.items(part, "steps", 0, STEPS, "steps")
@@ -253,7 +251,7 @@ class Checker:
 
     # Guards.
 
-    def guard(self, part: Part, value: Value, index: int, states: Names) -> Optional[int]:
+    def guard(self, part: Part, value: Value, index: int, states: Names) -> int | None:
         """The environment states that a guard means, a bit for each."""
         everything = (1 << len(states.known)) - 1
         if isinstance(value, Constant) and value.constant is not None:
@@ -287,9 +285,9 @@ class Checker:
             meaning = meaning & mask if word == "all" else meaning | mask
         return meaning
 
-    def listed(self, part: Part, value: Items, index: int, states: Names) -> Optional[int]:
+    def listed(self, part: Part, value: Items, index: int, states: Names) -> int | None:
         """The environment states that a list names."""
-        meaning: Optional[int] = 0
+        meaning: int | None = 0
         for item in value.items:
             what = "a state of the environment"
             number = self.known(part, item, ("steps", index), what, states)
@@ -303,7 +301,7 @@ class Checker:
 
     # The parts.
 
-    def environment(self, value: Value) -> Optional[Tuple[Environment, Names, Names]]:
+    def environment(self, value: Value) -> tuple[Environment, Names, Names] | None:
         part = self.part(value, "environment", 0, "the environment")
         if part is None:
             return None
@@ -323,7 +321,7 @@ class Checker:
                 environment.moves.append(Move(*found, step.span))  # type: ignore[arg-type]
         return environment, states, actions
 
-    def machine(self, part: Part, name: Optional[Name], env_states: Names, actions: Names) -> Tuple[Machine, Names]:
+    def machine(self, part: Part, name: Name | None, env_states: Names, actions: Names) -> tuple[Machine, Names]:
         """The members of a behaviour and of a target behind the name."""
         states = self.names(part, "states", 64)
         machine = Machine(part.value.span, name, states.known, self.start(part, states))
@@ -358,8 +356,8 @@ class Checker:
         value = part.value.get("steps")
         assert isinstance(value, Items)
         numbers = {item.span: index for index, item in reversed(list(enumerate(value.items)))}
-        earlier: Dict[Tuple[int, int], List[Step]] = {}
-        guards: Dict[Tuple[int, int, int], int] = {}
+        earlier: dict[tuple[int, int], list[Step]] = {}
+        guards: dict[tuple[int, int, int], int] = {}
         for step in machine.steps:
             before = earlier.setdefault((step.state, step.action), [])
             other = next((each for each in before if each.to != step.to and each.guard & step.guard), None)
@@ -385,10 +383,10 @@ class Checker:
         self,
         value: Value,
         number: int,
-        taken: Dict[str, Span],
+        taken: dict[str, Span],
         catalogue: Names,
-        machines: Sequence[Tuple[Machine, Names]],
-    ) -> Optional[Service]:
+        machines: Sequence[tuple[Machine, Names]],
+    ) -> Service | None:
         where = (self.name, "service", number)
         if not isinstance(value, Members):
             message = f"a service is an object, and {value.word} stands here"
@@ -482,7 +480,7 @@ class Checker:
             self.fault(part, "count", ("limit", 0), value.span, message)
         return whole or LIMIT
 
-    def read_environment(self, part: Part) -> Optional[Tuple[Environment, Names, Names]]:
+    def read_environment(self, part: Part) -> tuple[Environment, Names, Names] | None:
         value = part.value.get("environment")
         if value is None:
             self.no_part(part, "environment")
@@ -497,11 +495,11 @@ class Checker:
 
     def read_behaviours(
         self, part: Part, env_states: Names, actions: Names
-    ) -> Tuple[List[Tuple[Machine, Names]], Names]:
+    ) -> tuple[list[tuple[Machine, Names]], Names]:
         value = self.items(part, "behaviours", 0, 32, "behaviours")
         catalogue = Names(sure=value is not None)
-        machines: List[Tuple[Machine, Names]] = []
-        taken: Dict[str, Span] = {}
+        machines: list[tuple[Machine, Names]] = []
+        taken: dict[str, Span] = {}
         for number, item in enumerate(value.items if value else []):
             behaviour = self.part(item, "behaviour", number, f"behaviour {number}")
             if behaviour is None:
@@ -517,20 +515,20 @@ class Checker:
         return machines, catalogue
 
     def read_services(
-        self, part: Part, catalogue: Names, machines: Sequence[Tuple[Machine, Names]]
-    ) -> List[Optional[Service]]:
+        self, part: Part, catalogue: Names, machines: Sequence[tuple[Machine, Names]]
+    ) -> list[Service | None]:
         value = self.items(part, "services", 0, 32, "services")
-        taken: Dict[str, Span] = {}
+        taken: dict[str, Span] = {}
         items = value.items if value else []
         return [self.service(item, i, taken, catalogue, machines) for i, item in enumerate(items)]
 
     def read_targets(
         self,
         part: Part,
-        environment: Optional[Tuple[Environment, Names, Names]],
+        environment: tuple[Environment, Names, Names] | None,
         env_states: Names,
         actions: Names,
-    ) -> List[Machine]:
+    ) -> list[Machine]:
         if self.version != 3:
             value = part.value.get("target")
             if value is None:
@@ -539,7 +537,7 @@ class Checker:
             target = self.part(value, "target", 0, "the target")
             return [self.target(target, None, env_states, actions)] if target else []
         items = self.items(part, "targets", 2, 4, "targets")
-        taken: Dict[str, Span] = {}
+        taken: dict[str, Span] = {}
         targets = []
         for number, item in enumerate(items.items if items else []):
             target = self.part(item, "target", number, f"target {number}")
@@ -551,13 +549,13 @@ class Checker:
             self.combine(part, items, environment[0], targets)
         return targets
 
-    def target(self, part: Part, name: Optional[Name], env_states: Names, actions: Names) -> Machine:
+    def target(self, part: Part, name: Name | None, env_states: Names, actions: Names) -> Machine:
         machine, _ = self.machine(part, name, env_states, actions)
         if isinstance(part.value.get("steps"), Items):
             self.choices(part, machine, env_states)
         return machine
 
-    def combine(self, part: Part, items: Items, environment: Environment, targets: List[Machine]) -> None:
+    def combine(self, part: Part, items: Items, environment: Environment, targets: list[Machine]) -> None:
         """The first of the rules on the combination of several targets that is broken."""
         count = 1
         for target in targets:

@@ -6,7 +6,7 @@ import contextlib
 import dataclasses
 import json
 import tempfile
-from typing import Iterator, Optional
+from collections.abc import Iterator
 
 from roman_client import Document
 
@@ -18,7 +18,7 @@ from .systems import System
 from .writer import written
 
 
-def read(name: str, shelf: Optional[Shelf] = None) -> Checker:
+def read(name: str, shelf: Shelf | None = None) -> Checker:
     """A checker that has read a document, and has its system where nothing is refused. OSError where the
     document can't be read."""
     checker = Checker(name, shelf)

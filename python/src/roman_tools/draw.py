@@ -12,8 +12,9 @@ from __future__ import annotations
 
 import argparse
 import sys
+from collections.abc import Sequence
 from pathlib import Path
-from typing import Any, Optional, Sequence
+from typing import Any
 
 from . import explanations, finished, offers_picture, program, why
 from .documents import looked_up, plain_file, read
@@ -62,7 +63,7 @@ def why_of(system: System, name: str, asked: argparse.Namespace) -> explanations
     return play
 
 
-def offers_of(system: System, roman: Optional[str]) -> Any:
+def offers_of(system: System, roman: str | None) -> Any:
     """What is offered from the start, by the program's own certificate."""
     found = program.find(roman)
     if found is None:
@@ -91,7 +92,7 @@ def drawn(asked: argparse.Namespace) -> str:
     return str(picture.source) if asked.dot else svg(picture)
 
 
-def main(arguments: Optional[Sequence[str]] = None) -> int:
+def main(arguments: Sequence[str] | None = None) -> int:
     words = argparse.ArgumentParser(prog="roman-draw", description=(__doc__ or "").split("\n\n")[1])
     words.add_argument("system", metavar="SYSTEM")
     kinds = words.add_mutually_exclusive_group()

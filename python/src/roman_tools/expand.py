@@ -12,8 +12,8 @@ from __future__ import annotations
 import argparse
 import json
 import sys
+from collections.abc import Sequence
 from pathlib import Path
-from typing import Optional, Sequence
 
 from . import finished
 from .costs import Reader
@@ -23,7 +23,7 @@ from .lint import CLEAN, UNREADABLE, WRONG
 from .writer import written
 
 
-def main(arguments: Optional[Sequence[str]] = None) -> int:
+def main(arguments: Sequence[str] | None = None) -> int:
     words = argparse.ArgumentParser(prog="roman-expand", description=(__doc__ or "").split("\n\n")[1])
     words.add_argument("file", metavar="FILE")
     words.add_argument("-o", metavar="OUT", dest="out", help="write to this file")

@@ -3,8 +3,9 @@
 from __future__ import annotations
 
 import graphlib
+from collections.abc import Iterator, Sequence
 from dataclasses import dataclass
-from typing import Any, Dict, Iterator, List, Optional, Sequence, Set, Tuple
+from typing import Any, Optional
 
 from roman_client import Document, DocumentError, Explanation, Lost
 from roman_client.documents import Machine
@@ -12,14 +13,14 @@ from roman_client.replies import explanation_of
 
 from .pictures import CHOICE, FADED, GUARD, PLAIN, WRONG, Wrong, coloured, graph, html, marked
 
-Outcome = Tuple[str, str]
+Outcome = tuple[str, str]
 """The states of a service and of the environment after an answer."""
 
 
-def last_explanation(text: str) -> Optional[Explanation]:
+def last_explanation(text: str) -> Explanation | None:
     """The last explanation in a text, which may hold other replies too; None where there is none."""
-    found: List[str] = []
-    lines: List[str] = []
+    found: list[str] = []
+    lines: list[str] = []
     for line in text.splitlines():
         if line.startswith("lost ") or (lines and line.startswith("  ")):
             lines.append(line)
@@ -37,14 +38,14 @@ class Reply:
     """What services that are alike may answer: their names, the change of the first one, and the entry to which
     that leads."""
 
-    names: Tuple[str, ...]
+    names: tuple[str, ...]
     seat: int
     before: str
     outcome: Outcome
     to: int
 
 
-Step = Tuple[int, Optional[Reply], List[Reply]]
+Step = tuple[int, Optional[Reply], list[Reply]]
 """An entry of a line of play, the answer that is followed, and the other ones."""
 
 
@@ -65,7 +66,7 @@ class Play:
 
     # Which service is which.
 
-    def target_after(self, entry: Lost) -> Optional[str]:
+    def target_after(self, entry: Lost) -> str | None:
         """The target's state after the request of an entry, or None where the document has none."""
         if entry.request is None or entry.environment not in self.document.environment.states:
             return None
@@ -74,7 +75,7 @@ class Play:
         except DocumentError:
             return None
 
-    def led_to(self, number: int, seat: int, outcome: Outcome) -> Optional[int]:
+    def led_to(self, number: int, seat: int, outcome: Outcome) -> int | None:
         """The earlier entry to which an answer of that seat leads."""
         entry = self.entries[number]
         state, environment = outcome
@@ -94,7 +95,7 @@ class Play:
             if answer.service == name and answer.outcome is not None
         )
 
-    def find_seats(self) -> Dict[str, int]:
+    def find_seats(self) -> dict[str, int]:
         """The place of each service that answers. The document's order, where it fits; services may have died
         and joined since, and then the places are those to which all their answers lead."""
         named = in_order([[answer.service for answer in each.answers] for each in self.entries])
@@ -107,7 +108,7 @@ class Play:
             raise Wrong("the explanation isn't one of this system")
         return dict(zip(named, seats))
 
-    def all_names(self) -> List[str]:
+    def all_names(self) -> list[str]:
         """The name of each place; of one that never answers the document's, where that can be told."""
         names = {seat: name for name, seat in self.seats.items()}
         services = [each.name for each in self.document.services]
@@ -117,7 +118,7 @@ class Play:
                 names[seat] = services[seat] if usual else f"service {seat + 1}"
         return [names[seat] for seat in range(self.count)]
 
-    def kind_of(self, seat: int) -> Optional[Tuple[Machine, bool]]:
+    def kind_of(self, seat: int) -> tuple[Machine, bool] | None:
         """The behaviour of a place, and whether its service rests: the document's, or the only behaviour that
         has the states that are seen there."""
         for service in self.document.services:
@@ -127,7 +128,7 @@ class Play:
         fitting = [each for each in self.document.behaviours.values() if seen <= set(each.states)]
         return (fitting[0], True) if len(fitting) == 1 else None
 
-    def find_frozen(self) -> Set[int]:
+    def find_frozen(self) -> set[int]:
         """The places that are never asked, where somebody would be."""
         if not all(entry.request is None for entry in self.entries):
             return set(range(self.count)) - set(self.seats.values())
@@ -159,10 +160,10 @@ class Play:
         state = entry.states[self.seats[able[0]]]
         return len(list(self.document.outcomes(kind[0].name, state, entry.environment, entry.request))) == 1
 
-    def answers(self, number: int) -> List[Reply]:
+    def answers(self, number: int) -> list[Reply]:
         """What may be answered at an entry. Services that are alike, and may answer alike, are one."""
         entry = self.entries[number]
-        found: Dict[object, Reply] = {}
+        found: dict[object, Reply] = {}
         for name, outcome in ((answer.service, answer.outcome) for answer in entry.answers):
             if outcome is None:
                 continue
@@ -178,7 +179,7 @@ class Play:
                 found[alike] = Reply((name,), seat, entry.states[seat], outcome, to)
         return list(found.values())
 
-    def lengths(self) -> List[int]:
+    def lengths(self) -> list[int]:
         """How many requests the opponent still needs at each entry, if the answer is the one that ends soonest."""
         after = {i: [each.to for each in self.answers(i)] for i in range(len(self.entries))}
         lengths = [0] * len(self.entries)
@@ -187,7 +188,7 @@ class Play:
             lengths[number] = 0 if self.entries[number].request is None else 1 + (min(rest) if rest else 0)
         return lengths
 
-    def line(self) -> List[Step]:
+    def line(self) -> list[Step]:
         """One line of play, the shortest: each entry with the answer that is followed, and the other ones."""
         lengths = self.lengths()
         number = len(self.entries) - 1
@@ -200,7 +201,7 @@ class Play:
                 return line
             number = chosen.to
 
-    def whole(self) -> List[Step]:
+    def whole(self) -> list[Step]:
         """All entries of the game, from the present pair on."""
         waiting, seen = [len(self.entries) - 1], []
         while waiting:
@@ -210,9 +211,9 @@ class Play:
                 waiting += [each.to for each in self.answers(number)]
         return [(number, None, []) for number in seen]
 
-    def chained(self) -> List[List[Step]]:
+    def chained(self) -> list[list[Step]]:
         """The shortest line of play, with steps in a row in which nobody has a choice as one."""
-        chains: List[List[Step]] = []
+        chains: list[list[Step]] = []
         for step in self.line():
             if chains and self.is_forced(chains[-1][-1][0]) and self.is_forced(step[0]):
                 chains[-1].append(step)
@@ -224,7 +225,7 @@ class Play:
         """The requests of a chain, each with who serves it."""
         return ", ".join(f"{self.entries[number].request} by {reply.names[0]}" for number, reply, _ in chain if reply)
 
-    def changes(self, number: int) -> List[str]:
+    def changes(self, number: int) -> list[str]:
         """What is different from the present pair, service by service."""
         start, entry = self.entries[-1], self.entries[number]
         return [
@@ -233,7 +234,7 @@ class Play:
             if before != after
         ]
 
-    def present(self) -> List[str]:
+    def present(self) -> list[str]:
         """The states of the services at the present pair."""
         return [
             f"{name}: {state}" + (" (frozen)" if seat in self.frozen else "")
@@ -252,7 +253,7 @@ class Play:
     def text(self, everything: bool) -> str:
         return "\n".join(self.text_lines(everything)) + "\n"
 
-    def first_step(self) -> List[str]:
+    def first_step(self) -> list[str]:
         """The lines up to the first request at which somebody has a choice, or nobody can take it."""
         lines = list(self.text_lines(False))
         starts = [at for at, line in enumerate(lines) if not line.startswith(" ")] + [len(lines)]
@@ -282,7 +283,7 @@ class Play:
             if rest:
                 yield f"    {', '.join(n for each in rest for n in each.names)} would lose too"
 
-    def helpless(self, number: int) -> List[str]:
+    def helpless(self, number: int) -> list[str]:
         """Who can't take the request of an entry, and who isn't asked."""
         cannot = [each.service for each in self.entries[number].answers if each.outcome is None]
         told = [f"cannot: {', '.join(cannot)}"] if cannot else []
@@ -347,9 +348,9 @@ class Play:
         picture.node(f"p{number}", label=marked(lines), shape="box", style="rounded", **options)
 
 
-def in_order(lists: Sequence[Sequence[str]]) -> List[str]:
+def in_order(lists: Sequence[Sequence[str]]) -> list[str]:
     """The names of all lists, in an order that each list follows. In each they stand in the services' order."""
-    after: Dict[str, List[str]] = {}
+    after: dict[str, list[str]] = {}
     for names in lists:
         for name in names:
             after.setdefault(name, [])
@@ -361,7 +362,7 @@ def in_order(lists: Sequence[Sequence[str]]) -> List[str]:
         raise Wrong("the services of the explanation stand in different orders") from None
 
 
-def rising(choices: Sequence[Sequence[int]], least: int) -> Optional[List[int]]:
+def rising(choices: Sequence[Sequence[int]], least: int) -> list[int] | None:
     """A number of each list, each greater than the one before."""
     if not choices:
         return []

@@ -4,8 +4,9 @@ from __future__ import annotations
 
 import difflib
 import enum
+from collections.abc import Iterable, Sequence
 from dataclasses import dataclass, field, replace
-from typing import Any, Dict, Iterable, List, Optional, Sequence, Tuple
+from typing import Any
 
 from .reader import Span
 
@@ -42,10 +43,10 @@ class Finding:
     span: Span
     level: Level
     message: str
-    refusal: Optional[Refusal] = None
-    part: Optional[Tuple[str, int]] = field(default=None, compare=False)
+    refusal: Refusal | None = None
+    part: tuple[str, int] | None = field(default=None, compare=False)
     """The kind and the number of the part that it is about, if several parts share its place."""
-    cause: Optional[Finding] = field(default=None, compare=False)
+    cause: Finding | None = field(default=None, compare=False)
     """The finding that it follows from, or repeats."""
     consequences: int = field(default=0, compare=False)
     """How many findings follow from it, or repeat it."""
@@ -64,7 +65,7 @@ class Finding:
             return f" (and {self.consequences} more like it)"
         return f" (and {self.consequences} that {'follows' if self.consequences == 1 else 'follow'} from it)"
 
-    def shown(self) -> List[str]:
+    def shown(self) -> list[str]:
         """The heading, the line, and a mark below the word."""
         number, column = self.span.place
         line = self.span.source.line(number)
@@ -72,11 +73,11 @@ class Finding:
         below = "".join("\t" if letter == "\t" else " " for letter in line[: column - 1])
         return [printable(self.heading), "  " + printable(line), "  " + below + "^" + "~" * (length - 1)]
 
-    def value(self) -> Dict[str, Any]:
+    def value(self) -> dict[str, Any]:
         """The finding as a JSON value."""
         line, column = self.span.place
         end_line, end_column = self.span.source.place(self.span.end)
-        found: Dict[str, Any] = {
+        found: dict[str, Any] = {
             "file": printable(self.span.source.name),
             "line": line,
             "column": column,
@@ -97,30 +98,30 @@ def printable(text: str) -> str:
     return "".join(letter if letter == "\t" or letter.isprintable() else "\ufffd" for letter in text)
 
 
-def in_order(findings: Iterable[Finding]) -> List[Finding]:
+def in_order(findings: Iterable[Finding]) -> list[Finding]:
     """The findings file by file, in the order of the text, each once."""
     unrepeated = list(dict.fromkeys(findings))
     files = list(dict.fromkeys(each.span.source for each in unrepeated))
     return sorted(unrepeated, key=lambda each: (files.index(each.span.source), each.span.start))
 
 
-def grouped(findings: Sequence[Finding], causes: Dict[Finding, Finding]) -> List[Finding]:
+def grouped(findings: Sequence[Finding], causes: dict[Finding, Finding]) -> list[Finding]:
     """Findings with what they follow from: warnings with consequences first, each before its own."""
-    followers: Dict[Finding, List[Finding]] = {}
+    followers: dict[Finding, list[Finding]] = {}
     for each, cause in causes.items():
         followers.setdefault(cause, []).append(each)
     groups = [(each, followers.get(each, [])) for each in findings if each not in causes]
     groups.sort(key=lambda group: group[0].level is Level.WARNING and not group[1])
-    found: List[Finding] = []
+    found: list[Finding] = []
     for each, rest in groups:
         found.append(replace(each, consequences=len(rest)))
         found += [replace(follower, cause=each) for follower in findings if follower in rest]
     return found
 
 
-def repeats(findings: Sequence[Finding]) -> Dict[Finding, Finding]:
+def repeats(findings: Sequence[Finding]) -> dict[Finding, Finding]:
     """The errors with the message of an earlier one, each with that one."""
-    first: Dict[str, Finding] = {}
+    first: dict[str, Finding] = {}
     found = {}
     for each in findings:
         if each.level is Level.ERROR and first.setdefault(each.message, each) is not each:

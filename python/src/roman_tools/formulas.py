@@ -4,7 +4,8 @@ from __future__ import annotations
 
 import functools
 import re
-from typing import Any, Callable, Dict, List, Optional, Tuple
+from collections.abc import Callable
+from typing import Any
 
 from lark import Lark, Token, Tree, UnexpectedInput
 
@@ -33,7 +34,7 @@ Report = Callable[[Span, str], None]
 """Is told of what is wrong, and where."""
 
 
-@functools.lru_cache(maxsize=None)
+@functools.cache
 def parser() -> Lark:
     return Lark(GRAMMAR, parser="lalr")
 
@@ -43,10 +44,10 @@ class Space:
 
     def __init__(
         self,
-        states: List[str],
-        variables: Dict[str, List[str]],
-        values: List[Dict[str, str]],
-        elsewhere: Dict[str, str],
+        states: list[str],
+        variables: dict[str, list[str]],
+        values: list[dict[str, str]],
+        elsewhere: dict[str, str],
     ) -> None:
         self.states = states
         self.variables = variables
@@ -90,7 +91,7 @@ class Space:
         masks = [self.test(word, each.text, each.span, report) for each in values if isinstance(each, Text)]
         return self.joined(masks, False)
 
-    def joined(self, masks: List[int], by_all: bool) -> int:
+    def joined(self, masks: list[int], by_all: bool) -> int:
         meaning = self.everything if by_all else 0
         for mask in masks:
             meaning = meaning & mask if by_all else meaning | mask
@@ -159,13 +160,13 @@ class Space:
 
     def meaning(self, tree: Tree[Token], text: Text, report: Report) -> int:
         """The states that a formula means. Its parts come first, however deep they stand."""
-        masks: Dict[int, int] = {}
+        masks: dict[int, int] = {}
         for part in tree.iter_subtrees():
             within = [masks[id(each)] for each in part.children if isinstance(each, Tree)]
             masks[id(part)] = self.part(part, within, text, report)
         return masks[id(tree)]
 
-    def part(self, tree: Any, masks: List[int], text: Text, report: Report) -> int:
+    def part(self, tree: Any, masks: list[int], text: Text, report: Report) -> int:
         """The states that a part of a formula means, by those of its own parts."""
         if tree.data == "word":
             return self.word(str(tree.children[0]), spot(text, tree.children[0]), report)
@@ -216,9 +217,9 @@ def spot(text: Text, token: Token) -> Span:
     return text.span.within(token.start_pos + 1, token.end_pos + 1)
 
 
-def piece(text: Text, error: UnexpectedInput) -> Tuple[Span, str]:
+def piece(text: Text, error: UnexpectedInput) -> tuple[Span, str]:
     """Where a formula breaks off, and that in words."""
-    at: Optional[int] = error.pos_in_stream
+    at: int | None = error.pos_in_stream
     if at is None or at < 0 or at >= len(text.text) or getattr(getattr(error, "token", None), "type", "") == "$END":
         return text.span, "at its end"
     word = re.compile(r"[A-Za-z0-9_-]+|.", re.S).match(text.text, at)

@@ -13,7 +13,7 @@ import argparse
 import contextlib
 import json
 import sys
-from typing import List, Optional, Sequence, Tuple
+from collections.abc import Sequence
 
 from . import finished, program
 from .cautions import judged, of_text
@@ -26,12 +26,12 @@ from .why import explained, first_step
 CLEAN, WARNED, WRONG, LARGE, UNREADABLE = 0, 1, 3, 4, 5
 
 
-def lint(name: str) -> List[Finding]:
+def lint(name: str) -> list[Finding]:
     """All findings in a document, in the order of its text. OSError where it can't be read."""
     return all_findings(read(name))
 
 
-def all_findings(checker: Checker) -> List[Finding]:
+def all_findings(checker: Checker) -> list[Finding]:
     """The errors of a document that was read, and its warnings: causes first, each with what follows from it."""
     findings = in_order([*checker.findings, *of_text(checker)])
     if checker.system is None:
@@ -39,7 +39,7 @@ def all_findings(checker: Checker) -> List[Finding]:
     return [*findings, *judged(checker.system)]
 
 
-def said(words: argparse.Namespace, checker: Checker) -> List[str]:
+def said(words: argparse.Namespace, checker: Checker) -> list[str]:
     """What the program says of the document, in a line, and why it has no composition: of a short one, what it says of
     the plain one, and with a file of costs what it says of both. Nothing if the program isn't here."""
     found = None if words.no_program else program.find(words.program)
@@ -63,7 +63,7 @@ def said(words: argparse.Namespace, checker: Checker) -> List[str]:
         return [f"can't be called: {error.strerror}"]
 
 
-def counts(findings: Sequence[Finding]) -> Tuple[int, int]:
+def counts(findings: Sequence[Finding]) -> tuple[int, int]:
     """How many errors there are, and how many warnings."""
     errors = sum(each.level is Level.ERROR for each in findings)
     return errors, len(findings) - errors
@@ -73,7 +73,7 @@ def plural(count: int, word: str) -> str:
     return f"{count} {word}" if count == 1 else f"{count} {word}s"
 
 
-def main(arguments: Optional[Sequence[str]] = None) -> int:
+def main(arguments: Sequence[str] | None = None) -> int:
     words = argparse.ArgumentParser(prog="roman-lint", description=(__doc__ or "").split("\n\n")[1])
     words.add_argument("file", metavar="FILE")
     words.add_argument("costs", metavar="COSTS", nargs="?", help="a file of costs for the document")

@@ -12,9 +12,9 @@ import argparse
 import subprocess
 import sys
 import tempfile
+from collections.abc import Iterator, Sequence
 from dataclasses import replace
 from pathlib import Path
-from typing import Iterator, Optional, Sequence
 
 from roman_client import Document, Report, RomanError, Service, mend
 from roman_client.remedies import free_name, joins_loose
@@ -31,7 +31,7 @@ DONE, NOTHING = 0, 1
 """The statuses: something helps, or nothing has to; nothing helps."""
 
 
-def present(roman: str, system: System, session: Optional[str]) -> Report:
+def present(roman: str, system: System, session: str | None) -> Report:
     """The report at the end of a session; without one that of the document. Raises Wrong where the program gives
     none."""
     lines = [] if session is None else Path(session).read_text(encoding="utf-8", errors="replace").splitlines()
@@ -44,7 +44,7 @@ def present(roman: str, system: System, session: Optional[str]) -> Report:
     return last_report(done)
 
 
-def last_report(done: "subprocess.CompletedProcess[str]") -> Report:
+def last_report(done: subprocess.CompletedProcess[str]) -> Report:
     """The last report that the program wrote. Raises Wrong where it wrote none."""
     lines = done.stdout.splitlines()
     starts = [place for place, line in enumerate(lines) if line.startswith("pairs ")]
@@ -123,7 +123,7 @@ def parser() -> argparse.ArgumentParser:
     return words
 
 
-def main(arguments: Optional[Sequence[str]] = None) -> int:
+def main(arguments: Sequence[str] | None = None) -> int:
     asked = parser().parse_args(arguments)
     try:
         checker = read(asked.system)

@@ -3,7 +3,7 @@
 from __future__ import annotations
 
 from dataclasses import dataclass
-from typing import Any, Dict, List, Set, Tuple
+from typing import Any
 
 from roman_client import Document
 
@@ -19,13 +19,13 @@ class Pair:
 
     target: str
     environment: str
-    services: Tuple[str, ...]
+    services: tuple[str, ...]
 
 
 class Arena:
     """The pairs of a document, and those of them that are lost."""
 
-    def __init__(self, document: Document, lost: Set[int]) -> None:
+    def __init__(self, document: Document, lost: set[int]) -> None:
         self.document = document
         self.lost = lost
         states = tuple(service.state for service in document.services)
@@ -52,7 +52,7 @@ class Arena:
     def is_related(self, pair: Pair) -> bool:
         return self.number(pair) not in self.lost
 
-    def outcomes(self, pair: Pair, request: str, seat: int) -> List[Pair]:
+    def outcomes(self, pair: Pair, request: str, seat: int) -> list[Pair]:
         """The pairs to which a service may lead by a request that is allowed; none where it can't take it."""
         service = self.document.services[seat]
         target = self.document.target_after(pair.target, pair.environment, request)
@@ -67,7 +67,7 @@ class Arena:
     def where(self, pair: Pair) -> str:
         return f"<B>{html(pair.target)}</B> · {html(pair.environment)}"
 
-    def changes(self, pair: Pair) -> List[str]:
+    def changes(self, pair: Pair) -> list[str]:
         """The services whose states aren't those of the start."""
         return [
             f"{service.name}: {state}"
@@ -83,16 +83,16 @@ def picture(document: Document, certificate: str) -> Any:
     if not arena.is_related(arena.start):
         raise Wrong("there is no composition from the start, so nothing is offered there")
     drawn = graph("LR")
-    names: Dict[Pair, str] = {arena.start: "p0"}
+    names: dict[Pair, str] = {arena.start: "p0"}
     waiting = [arena.start]
-    cut: Set[str] = set()
+    cut: set[str] = set()
     while waiting:
         pair = waiting.pop(0)
         options = {"penwidth": "2.4"} if pair == arena.start else {}
         lines = [arena.where(pair), *(coloured(each, PLAIN, True) for each in arena.changes(pair))]
         drawn.node(names[pair], label=marked(lines), shape="box", style="rounded", **options)
-        arrows: Dict[Pair, List[str]] = {}
-        lost: List[str] = []
+        arrows: dict[Pair, list[str]] = {}
+        lost: list[str] = []
         for request in document.allowed(pair.target, pair.environment):
             for seat, service in enumerate(document.services):
                 found = arena.outcomes(pair, request, seat)

@@ -2,8 +2,9 @@
 
 from __future__ import annotations
 
+from collections.abc import Sequence
 from html import escape
-from typing import TYPE_CHECKING, Sequence
+from typing import TYPE_CHECKING
 
 from . import need
 
@@ -22,7 +23,7 @@ class Wrong(Exception):
     """Something can't be drawn."""
 
 
-def graph(direction: str, **options: str) -> "graphviz.Digraph":
+def graph(direction: str, **options: str) -> graphviz.Digraph:
     """An empty picture. What is written in words needs no Graphviz."""
     need("graphviz")
     import graphviz
@@ -35,7 +36,7 @@ def graph(direction: str, **options: str) -> "graphviz.Digraph":
     return picture
 
 
-def svg(picture: "graphviz.Digraph") -> str:
+def svg(picture: graphviz.Digraph) -> str:
     """The picture as an SVG."""
     import graphviz
 

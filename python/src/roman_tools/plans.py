@@ -3,8 +3,8 @@
 from __future__ import annotations
 
 import itertools
+from collections.abc import Sequence
 from dataclasses import dataclass, field
-from typing import Dict, FrozenSet, List, Optional, Sequence, Set, Tuple
 
 from .reader import Span, Value
 
@@ -27,11 +27,11 @@ class Request:
     """A place of a plan: which actions may be requested there, in which environment states, and the name of the
     state that follows."""
 
-    actions: Tuple[str, ...]
+    actions: tuple[str, ...]
     guard: int
-    name: Optional[str]
+    name: str | None
     span: Span
-    written: Optional[Value] = None
+    written: Value | None = None
     """The guard as it is written."""
 
 
@@ -40,16 +40,16 @@ class Shape:
     """A piece of a plan: whether it may be left out, and with which places it begins and ends."""
 
     empty: bool
-    first: FrozenSet[Place]
-    last: FrozenSet[Place]
+    first: frozenset[Place]
+    last: frozenset[Place]
 
 
 @dataclass
 class Plan:
     """The places of a plan, and which of them may come after which."""
 
-    requests: List[Request] = field(default_factory=list)
-    after: Dict[Place, Set[Place]] = field(default_factory=dict)
+    requests: list[Request] = field(default_factory=list)
+    after: dict[Place, set[Place]] = field(default_factory=dict)
 
     # Pieces.
 
@@ -82,12 +82,12 @@ class Plan:
         self.join(piece.last, piece.first)
         return Shape(True, piece.first, piece.last)
 
-    def join(self, ends: FrozenSet[Place], starts: FrozenSet[Place]) -> None:
+    def join(self, ends: frozenset[Place], starts: frozenset[Place]) -> None:
         for end in ends:
             self.after.setdefault(end, set()).update(starts)
 
 
-State = FrozenSet[Place]
+State = frozenset[Place]
 """The places of which one was the last."""
 
 
@@ -111,27 +111,27 @@ class Way:
 class Made:
     """A plan's machine: the names of its states with where they come from, the final ones, and its steps."""
 
-    states: Dict[str, Optional[Span]]
-    finals: List[str]
-    ways: List[Way]
+    states: dict[str, Span | None]
+    finals: list[str]
+    ways: list[Way]
 
 
 class Maker:
     """Makes the machine of a plan: sets of places as its states, those that can't be told apart as one."""
 
-    def __init__(self, plan: Plan, whole: Shape, start: str, size: int, finals: Optional[Set[str]]) -> None:
+    def __init__(self, plan: Plan, whole: Shape, start: str, size: int, finals: set[str] | None) -> None:
         self.plan = plan
         self.plan.after.setdefault(BEGIN, set()).update(whole.first)
         self.ends = whole.last | ({BEGIN} if whole.empty else frozenset())
         self.start = start
         self.size = size
         self.given_finals = finals
-        self.ways: Dict[State, List[Tuple[str, int, State, Request]]] = {}
+        self.ways: dict[State, list[tuple[str, int, State, Request]]] = {}
         self.explore()
 
     def explore(self) -> None:
         """All states to which the plan leads, with their ways."""
-        waiting: List[State] = [frozenset({BEGIN})]
+        waiting: list[State] = [frozenset({BEGIN})]
         while waiting:
             state = waiting.pop(0)
             if state in self.ways:
@@ -141,14 +141,14 @@ class Maker:
             self.ways[state] = self.ways_of(state)
             waiting += [to for _, _, to, _ in self.ways[state]]
 
-    def ways_of(self, state: State) -> List[Tuple[str, int, State, Request]]:
+    def ways_of(self, state: State) -> list[tuple[str, int, State, Request]]:
         """For each action the sets of places to which it leads, with the environment states in which it does."""
         places = sorted(set().union(*(self.plan.after.get(place, set()) for place in state)))
         requests = [(place, self.plan.requests[place]) for place in places]
         found = []
         for action in dict.fromkeys(each for _, request in requests for each in request.actions):
             able = [(place, request.guard) for place, request in requests if action in request.actions]
-            guards: Dict[State, int] = {}
+            guards: dict[State, int] = {}
             for part in parts((1 << self.size) - 1, {guard for _, guard in able}):
                 to = frozenset(place for place, guard in able if guard & part)
                 if to:
@@ -157,7 +157,7 @@ class Maker:
                 found.append((action, guard, to, self.plan.requests[min(to)]))
         return found
 
-    def name(self, state: State) -> Optional[str]:
+    def name(self, state: State) -> str | None:
         """The name that the plan gives a state."""
         if state == frozenset({BEGIN}):
             return self.start
@@ -169,13 +169,13 @@ class Maker:
             return bool(state & self.ends)
         return self.name(state) in self.given_finals
 
-    def blocks(self) -> Dict[State, int]:
+    def blocks(self) -> dict[State, int]:
         """The number of each state's block: states in one block can't be told apart."""
         blocks = {state: int(self.is_final(state)) for state in self.ways}
         count = 0
         while count != len(set(blocks.values())):
             count = len(set(blocks.values()))
-            numbers: Dict[object, int] = {}
+            numbers: dict[object, int] = {}
             finer = {}
             for state, ways in self.ways.items():
                 seen = {
@@ -189,10 +189,10 @@ class Maker:
             blocks = finer
         return blocks
 
-    def clashes(self) -> List[Tuple[str, Span]]:
+    def clashes(self) -> list[tuple[str, Span]]:
         """The names that the plan gives to states that can be told apart."""
         blocks = self.blocks()
-        owners: Dict[str, int] = {}
+        owners: dict[str, int] = {}
         found = []
         for state in self.ways:
             name = self.name(state)
@@ -202,14 +202,14 @@ class Maker:
 
     def made(self) -> Made:
         blocks = self.blocks()
-        names: Dict[int, List[str]] = {}
+        names: dict[int, list[str]] = {}
         for state in self.ways:
             name = self.name(state)
             if name is not None and name not in names.setdefault(blocks[state], []):
                 names[blocks[state]].append(name)
-        titles: Dict[State, str] = {}
+        titles: dict[State, str] = {}
         taken = {name for each in names.values() for name in each}
-        fresh: Dict[int, str] = {}
+        fresh: dict[int, str] = {}
         for state in self.ways:
             name, block = self.name(state), blocks[state]
             if name is None and names.get(block):
@@ -235,7 +235,7 @@ class Maker:
         return self.plan.requests[min(place for place in state if place != BEGIN)].actions[0]
 
 
-def parts(everything: int, guards: Set[int]) -> List[int]:
+def parts(everything: int, guards: set[int]) -> list[int]:
     """The largest sets of environment states that no guard tells apart, from the first state on."""
     found = [everything]
     for guard in guards:
@@ -243,7 +243,7 @@ def parts(everything: int, guards: Set[int]) -> List[int]:
     return sorted(found, key=lambda each: each & -each)
 
 
-def free_name(action: str, taken: Set[str]) -> str:
+def free_name(action: str, taken: set[str]) -> str:
     """`after-ACTION`, with a number where that is taken."""
     base = f"after-{action}"[:29]
     names = itertools.chain([base], (f"{base}-{number}" for number in itertools.count(2)))

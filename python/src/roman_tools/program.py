@@ -6,13 +6,12 @@ import os
 import shutil
 import subprocess
 from pathlib import Path
-from typing import Optional
 
 PACKAGES = Path(__file__).resolve().parents[1]
 """The folder of the packages: python/src of a clone, or the one to which ./install copies them."""
 
 
-def find(given: Optional[str] = None) -> Optional[str]:
+def find(given: str | None = None) -> str | None:
     """The program that is given, that ROMAN names, that stands beside the tools, or that PATH has."""
     for each in (given, os.environ.get("ROMAN")):
         if each:
@@ -23,7 +22,7 @@ def find(given: Optional[str] = None) -> Optional[str]:
     return str(beside) if os.access(beside, os.X_OK) else shutil.which("roman")
 
 
-def run(program: str, *words: str, text: str = "") -> "subprocess.CompletedProcess[str]":
+def run(program: str, *words: str, text: str = "") -> subprocess.CompletedProcess[str]:
     """What the program writes for these words, and for that text at its standard input. OSError where it can't be
     started."""
     return subprocess.run([program, *words], input=text, capture_output=True, text=True, errors="replace", check=False)

@@ -11,9 +11,10 @@ import json
 import math
 import re
 from bisect import bisect_right
+from collections.abc import Iterator
 from dataclasses import dataclass, field
 from pathlib import Path
-from typing import Any, Dict, Iterator, List, Optional, Tuple
+from typing import Any
 
 from lark import Lark, Token, UnexpectedCharacters, UnexpectedInput
 from lark.visitors import Transformer_NonRecursive
@@ -59,7 +60,7 @@ class Source:
         self.text = text
         self._starts = [0, *(found.end() for found in re.finditer("\n", text))]
 
-    def place(self, offset: int) -> Tuple[int, int]:
+    def place(self, offset: int) -> tuple[int, int]:
         """The line and the column of a character, both counted from 1."""
         line = bisect_right(self._starts, offset)
         return line, offset - self._starts[line - 1] + 1
@@ -80,7 +81,7 @@ class Span:
     end: int
 
     @property
-    def place(self) -> Tuple[int, int]:
+    def place(self) -> tuple[int, int]:
         """The line and the column of its first character."""
         return self.source.place(self.start)
 
@@ -141,7 +142,7 @@ class Number(Value):
         return "a number"
 
     @property
-    def whole(self) -> Optional[int]:
+    def whole(self) -> int | None:
         """The number, where it is a u64 without sign, point and exponent."""
         if not re.fullmatch("[0-9]+", self.literal) or len(self.literal) > 20:
             return None
@@ -153,7 +154,7 @@ class Number(Value):
 class Constant(Value):
     """`true`, `false` or `null`."""
 
-    constant: Optional[bool]
+    constant: bool | None
 
     @property
     def word(self) -> str:
@@ -164,7 +165,7 @@ class Constant(Value):
 class Items(Value):
     """A list."""
 
-    items: List[Value]
+    items: list[Value]
 
     @property
     def word(self) -> str:
@@ -183,8 +184,8 @@ class Member:
 class Members(Value):
     """An object, with its members as they stand in the text."""
 
-    members: List[Member]
-    last: Dict[str, Member] = field(init=False, compare=False, repr=False)
+    members: list[Member]
+    last: dict[str, Member] = field(init=False, compare=False, repr=False)
     """The members by their names; of those with one name the last, which counts."""
 
     def __post_init__(self) -> None:
@@ -194,7 +195,7 @@ class Members(Value):
     def word(self) -> str:
         return "an object"
 
-    def get(self, name: str) -> Optional[Value]:
+    def get(self, name: str) -> Value | None:
         """The value of a member."""
         found = self.last.get(name)
         return None if found is None else found.value
@@ -206,7 +207,7 @@ class Members(Value):
                 yield each
 
 
-@functools.lru_cache(maxsize=None)
+@functools.cache
 def parser() -> Lark:
     return Lark(GRAMMAR, parser="lalr", maybe_placeholders=False)
 
@@ -233,13 +234,13 @@ class Builder(Transformer_NonRecursive):
 
     TRUE = FALSE = NULL = constant
 
-    def pair(self, children: List[Any]) -> Member:
+    def pair(self, children: list[Any]) -> Member:
         return Member(children[0], children[1])
 
-    def object(self, children: List[Any]) -> Members:
+    def object(self, children: list[Any]) -> Members:
         return Members(self.span(children[0], children[-1]), children[1:-1])
 
-    def array(self, children: List[Any]) -> Items:
+    def array(self, children: list[Any]) -> Items:
         return Items(self.span(children[0], children[-1]), children[1:-1])
 
 
@@ -260,9 +261,9 @@ def parsed(source: Source) -> Value:
     return value
 
 
-def walked(value: Value) -> Iterator[Tuple[Value, int]]:
+def walked(value: Value) -> Iterator[tuple[Value, int]]:
     """All values in one, in the order of the text, each with how many lists and objects stand around and at it."""
-    waiting: List[Tuple[Value, int]] = [(value, 1)]
+    waiting: list[tuple[Value, int]] = [(value, 1)]
     while waiting:
         each, depth = waiting.pop()
         yield each, depth
@@ -368,9 +369,9 @@ class Shelf:
     def __init__(self, folder: Path = Path()) -> None:
         """Names count from that folder."""
         self._folder = folder
-        self._sources: Dict[str, Tuple[Source, int]] = {}
+        self._sources: dict[str, tuple[Source, int]] = {}
 
-    def source(self, name: str) -> Tuple[Source, int]:
+    def source(self, name: str) -> tuple[Source, int]:
         """A file's text, and how many bytes it has. OSError where it can't be read."""
         if name not in self._sources:
             try:

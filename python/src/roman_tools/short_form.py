@@ -11,9 +11,10 @@ import itertools
 import json
 import math
 import re
+from collections.abc import Iterator, Sequence
 from dataclasses import dataclass, field
 from pathlib import Path
-from typing import Any, Dict, Iterator, List, Optional, Sequence, Tuple
+from typing import Any
 
 from jsonschema import Draft202012Validator  # type: ignore[import]
 from jsonschema.exceptions import ValidationError  # type: ignore[import]
@@ -47,7 +48,7 @@ def text(at: Span, word: str) -> Text:
     return Text(at, word)
 
 
-def members(at: Span, **values: Optional[Value]) -> Members:
+def members(at: Span, **values: Value | None) -> Members:
     """An object of the values that are there."""
     return Members(at, [Member(text(at, name), value) for name, value in values.items() if value is not None])
 
@@ -66,7 +67,7 @@ def plain(value: Value) -> Any:
     return {name: plain(member.value) for name, member in value.last.items()}
 
 
-def word_of(value: Optional[Value]) -> Optional[str]:
+def word_of(value: Value | None) -> str | None:
     """A text, or true or false as a word; None for any other value."""
     if isinstance(value, Constant) and value.constant is not None:
         return "true" if value.constant else "false"
@@ -78,18 +79,18 @@ def member_text(value: Value, name: str) -> str:
     return word_of(value.get(name) if isinstance(value, Members) else None) or ""
 
 
-def texts(value: Optional[Value]) -> List[Text]:
+def texts(value: Value | None) -> list[Text]:
     """A text, or the texts of a list."""
     if isinstance(value, Items):
         return [each for each in value.items if isinstance(each, Text)]
     return [value] if isinstance(value, Text) else []
 
 
-def filled(value: Value, given: Dict[str, str], report: Any) -> Value:
+def filled(value: Value, given: dict[str, str], report: Any) -> Value:
     """The value with `$NAME` in its texts replaced."""
     if isinstance(value, Text):
 
-        def word(found: "re.Match[str]") -> str:
+        def word(found: re.Match[str]) -> str:
             name = found[1] or found[2]
             if name not in given:
                 report(value.span, f'"${name}" is no parameter{meant(name, given)}')
@@ -117,9 +118,9 @@ class Template:
 
     value: Members
     name: str
-    defaults: Dict[str, Optional[str]]
-    made: Dict[Tuple[Tuple[str, str], ...], str] = field(default_factory=dict)
-    values: List[Value] = field(default_factory=list)
+    defaults: dict[str, str | None]
+    made: dict[tuple[tuple[str, str], ...], str] = field(default_factory=dict)
+    values: list[Value] = field(default_factory=list)
 
 
 class Expander:
@@ -129,19 +130,19 @@ class Expander:
     def __init__(self, checker: Checker) -> None:
         self.checker = checker
         self.space = Space([], {}, [], {})
-        self.elsewhere: Dict[str, str] = {}
+        self.elsewhere: dict[str, str] = {}
         """The states of behaviours, each with a behaviour that has it."""
-        self.seen: Dict[str, Text] = {}
+        self.seen: dict[str, Text] = {}
         """The actions of the document as they come up, for an environment that doesn't list them."""
-        self.moved: Dict[str, Span] = {}
+        self.moved: dict[str, Span] = {}
         """The actions on which the environment has a step, with the first one of each."""
-        self.planned: Dict[str, Span] = {}
+        self.planned: dict[str, Span] = {}
         """The actions that plans request, with the first place of each."""
 
     def report(self, span: Span, message: str) -> None:
         self.checker.findings.append(Finding(span, Level.ERROR, message))
 
-    def from_file(self, value: Value, word: str, number: int) -> Optional[Value]:
+    def from_file(self, value: Value, word: str, number: int) -> Value | None:
         """A part, from its file where it is given by one."""
         if not isinstance(value, Members) or "file" not in value.last:
             return value
@@ -150,7 +151,7 @@ class Expander:
 
     # The document.
 
-    def expand(self, document: Members) -> Optional[Members]:
+    def expand(self, document: Members) -> Members | None:
         """The plain document, or None where something is wrong."""
         document = self.with_parts(document)
         if self.checker.findings or not self.has_form(document):
@@ -229,7 +230,7 @@ class Expander:
         for step in items_of(machine.get("steps")):
             self.note(requested(step))
 
-    def collect_plan(self, value: Optional[Value]) -> None:
+    def collect_plan(self, value: Value | None) -> None:
         if isinstance(value, Text):
             self.note([value])
         for each in items_of(value):
@@ -246,8 +247,8 @@ class Expander:
         if not kinds <= {member_text(each, "name") for each in behaviours}:
             return
         listed = {each.text for each in known}
-        served: Dict[str, Span] = {}
-        idle: Dict[str, str] = {}
+        served: dict[str, Span] = {}
+        idle: dict[str, str] = {}
         for behaviour in behaviours:
             name = member_text(behaviour, "name")
             for step in items_of(behaviour.get("steps") if isinstance(behaviour, Members) else None):
@@ -262,14 +263,14 @@ class Expander:
 
     # The environment.
 
-    def environment(self, value: Optional[Value], at: Span) -> Members:
+    def environment(self, value: Value | None, at: Span) -> Members:
         """The plain environment. Where there is none it has one state, which all actions leave."""
         if not isinstance(value, Members):
             value = members(at, states=Items(at, [text(at, "always")]), otherwise=text(at, STAYS))
         states = self.states(value)
         listed = value.get("actions")
         actions = texts(listed) if listed is not None else list(self.seen.values())
-        triples: Dict[Tuple[str, str, str], Items] = {}
+        triples: dict[tuple[str, str, str], Items] = {}
         for step in items_of(value.get("steps")):
             for one, action, other in self.moves(step, states):
                 key = (one.text, action.text, other.text)
@@ -290,7 +291,7 @@ class Expander:
             steps=Items(span_of(value, "steps"), list(triples.values())),
         )
 
-    def states(self, value: Members) -> List[Text]:
+    def states(self, value: Members) -> list[Text]:
         """The states: as they are listed, or one for each combination of the variables' values."""
         variables = value.get("variables")
         if not isinstance(variables, Members):
@@ -321,7 +322,7 @@ class Expander:
         assert isinstance(start, Members)
         return self.changed(dict(self.space.values[0]), start)
 
-    def changed(self, values: Dict[str, str], change: Members) -> Text:
+    def changed(self, values: dict[str, str], change: Members) -> Text:
         """The state that has these values, but for those that change."""
         for name, member in change.last.items():
             if isinstance(member.value, Text):
@@ -332,7 +333,7 @@ class Expander:
                     values[name] = member.value.text
         return text(change.span, "-".join(values.values()))
 
-    def moves(self, step: Value, states: Sequence[Text]) -> Iterator[Tuple[Text, Text, Text]]:
+    def moves(self, step: Value, states: Sequence[Text]) -> Iterator[tuple[Text, Text, Text]]:
         """The steps that one stands for."""
         if isinstance(step, Items):
             one, action, other = texts(step)
@@ -340,7 +341,7 @@ class Expander:
             return
         assert isinstance(step, Members)
         guard = self.step_guard(step)
-        ways: List[Optional[Value]] = [None]
+        ways: list[Value | None] = [None]
         if "set" in step.last:
             ways = [step.get("set")]
         elif "to" in step.last:
@@ -355,7 +356,7 @@ class Expander:
                 elif is_word(step.get("otherwise"), STAYS):
                     yield state, action, state
 
-    def led_to(self, number: int, state: Text, way: Optional[Value]) -> Text:
+    def led_to(self, number: int, state: Text, way: Value | None) -> Text:
         """The state to which a way leads from one."""
         if way is None:
             return state
@@ -375,11 +376,11 @@ class Expander:
 
     # Behaviours and services.
 
-    def behaviours(self, document: Members) -> Tuple[List[Value], List[Value]]:
+    def behaviours(self, document: Members) -> tuple[list[Value], list[Value]]:
         """The catalogue, and the services of it."""
-        templates: Dict[str, Template] = {}
-        slots: List[Any] = []
-        counted: List[Tuple[Text, Value]] = []
+        templates: dict[str, Template] = {}
+        slots: list[Any] = []
+        counted: list[tuple[Text, Value]] = []
         for value in items_of(document.get("behaviours")):
             assert isinstance(value, Members)
             name = value.get("name")
@@ -392,19 +393,19 @@ class Expander:
                 slots.append(template)
             else:
                 slots.append(self.machine(value))
-        services: List[Value] = []
+        services: list[Value] = []
         for value in items_of(document.get("services")):
             assert isinstance(value, Members)
             services += self.services(value, templates)
         for name, count in counted:
             value = members(name.span, name=name, behaviour=name, count=count)
             services += self.services(value, templates)
-        behaviours: List[Value] = []
+        behaviours: list[Value] = []
         for slot in slots:
             behaviours += slot.values if isinstance(slot, Template) else [slot]
         return behaviours, services
 
-    def services(self, value: Members, templates: Dict[str, Template]) -> Iterator[Value]:
+    def services(self, value: Members, templates: dict[str, Template]) -> Iterator[Value]:
         """The services that one stands for."""
         behaviour = value.get("behaviour")
         assert isinstance(behaviour, Text)
@@ -433,7 +434,7 @@ class Expander:
                 rests=value.get("rests"),
             )
 
-    def instance(self, template: Template, service: Members, given: Dict[str, str]) -> str:
+    def instance(self, template: Template, service: Members, given: dict[str, str]) -> str:
         """The name of the behaviour that a service needs of one with parameters, made where it is new."""
         arguments = dict(template.defaults)
         with_value = service.get("with")
@@ -462,13 +463,13 @@ class Expander:
             template.values.append(self.machine(value, name))
         return template.made[key]
 
-    def machine(self, value: Members, name: Optional[str] = None) -> Members:
+    def machine(self, value: Members, name: str | None = None) -> Members:
         """The plain form of a behaviour, or of a target by steps."""
         steps = [each for step in items_of(value.get("steps")) for each in self.steps(step)]
         states = texts(value.get("states"))
         start = value.get("start")
         if not states:
-            found: Dict[str, Text] = {start.text: start} if isinstance(start, Text) else {}
+            found: dict[str, Text] = {start.text: start} if isinstance(start, Text) else {}
             named = {each.text for step in steps for each in (step.items[0], step.items[3]) if isinstance(each, Text)}
             if isinstance(start, Text) and named and start.text not in named:
                 self.report(start.span, f'"{start.text}" stands in no step{meant(start.text, named)}')
@@ -505,7 +506,7 @@ class Expander:
             for other in texts(step.get("to")) or [one]:
                 yield Items(step.span, [one, guard, action, other])
 
-    def told(self, guard: Optional[Value], step: Value) -> Value:
+    def told(self, guard: Value | None, step: Value) -> Value:
         """A guard as a plain one. One that is written as false stays so, since it is meant."""
         if guard is None:
             return Constant(step.span, True)
@@ -520,7 +521,7 @@ class Expander:
 
     # Targets.
 
-    def targets(self, document: Members) -> List[Value]:
+    def targets(self, document: Members) -> list[Value]:
         one = document.get("target")
         values = [one] if one is not None else list(items_of(document.get("targets")))
         return [self.target(each) for each in values if isinstance(each, Members)]
@@ -566,9 +567,7 @@ class Expander:
         state, action, to = (text(way.span, each) for each in (way.state, way.action, way.to))
         return Items(way.span, [state, self.listed(way.guard, at, words), action, to])
 
-    def request(
-        self, plan: Plan, actions: Sequence[Text], guard: Optional[Value], name: Optional[str], at: Span
-    ) -> Shape:
+    def request(self, plan: Plan, actions: Sequence[Text], guard: Value | None, name: str | None, at: Span) -> Shape:
         """A place of a plan at which one of these actions may be requested."""
         for action in actions:
             self.planned.setdefault(action.text, action.span)
@@ -592,7 +591,7 @@ class Expander:
         return plan.loop(inner) if "loop" in value.last else Shape(True, inner.first, inner.last)
 
 
-def parameters(value: Members) -> Dict[str, Optional[str]]:
+def parameters(value: Members) -> dict[str, str | None]:
     """The parameters of a behaviour with what they are where nothing is given."""
     listed = value.get("parameters")
     if isinstance(listed, Members):
@@ -600,9 +599,9 @@ def parameters(value: Members) -> Dict[str, Optional[str]]:
     return {each.text: None for each in texts(listed)}
 
 
-def states_of_behaviours(document: Members) -> Dict[str, str]:
+def states_of_behaviours(document: Members) -> dict[str, str]:
     """The states of the behaviours, each with the name of the first one that has it."""
-    found: Dict[str, str] = {}
+    found: dict[str, str] = {}
     for behaviour in items_of(document.get("behaviours")):
         name = behaviour.get("name") if isinstance(behaviour, Members) else None
         if not isinstance(behaviour, Members) or not isinstance(name, Text):
@@ -622,7 +621,7 @@ def states_of_behaviours(document: Members) -> Dict[str, str]:
 def has_short_words(document: Members) -> bool:
     """Whether a document has members that the short form alone knows."""
     targets = [document.get("target"), *items_of(document.get("targets"))]
-    parts: List[Tuple[Sequence[Optional[Value]], Tuple[str, ...]]] = [
+    parts: list[tuple[Sequence[Value | None], tuple[str, ...]]] = [
         ([document.get("environment")], ("variables", "otherwise")),
         (items_of(document.get("behaviours")), ("parameters", "count")),
         (items_of(document.get("services")), ("with", "count")),
@@ -633,7 +632,7 @@ def has_short_words(document: Members) -> bool:
     )
 
 
-def items_of(value: Optional[Value]) -> List[Value]:
+def items_of(value: Value | None) -> list[Value]:
     return value.items if isinstance(value, Items) else []
 
 
@@ -644,11 +643,11 @@ def requested(step: Value) -> Sequence[Value]:
     return items_of(step)[-2:-1]
 
 
-def is_word(value: Optional[Value], word: str) -> bool:
+def is_word(value: Value | None, word: str) -> bool:
     return isinstance(value, Text) and value.text == word
 
 
-def is_false(value: Optional[Value]) -> bool:
+def is_false(value: Value | None) -> bool:
     return isinstance(value, Constant) and value.constant is False
 
 
@@ -663,7 +662,7 @@ def span_of(value: Members, *names: str) -> Span:
 # What has not the form of the schema.
 
 
-def told(document: Members, error: ValidationError) -> Tuple[Span, str]:
+def told(document: Members, error: ValidationError) -> tuple[Span, str]:
     """Where a value stands that hasn't its form, and what is wrong."""
     value: Value = document
     for step in error.absolute_path:

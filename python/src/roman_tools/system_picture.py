@@ -4,8 +4,9 @@ from __future__ import annotations
 
 import re
 import textwrap
+from collections.abc import Iterable, Sequence
 from dataclasses import dataclass, field
-from typing import Any, Dict, Iterable, List, Optional, Sequence, Set, Tuple
+from typing import Any
 
 from .checks import Checker, Part
 from .findings import Finding
@@ -22,7 +23,7 @@ LABELS = 4
 KEYS = {"environment": "e", "behaviour": "b", "target": "t"}
 """What the names of a machine's nodes begin with, by the part."""
 
-Arrow = Tuple[str, str, str]
+Arrow = tuple[str, str, str]
 """The state that it leaves, the one that it leads to, and its marks: `guard`, `choice`, `wrong`."""
 
 
@@ -34,9 +35,9 @@ class Drawn:
     to: str
     action: str
     guard: str
-    holds: Optional[Set[str]]
+    holds: set[str] | None
     """The environment states in which it can be taken; None where that isn't known."""
-    spans: List[Span] = field(default_factory=list)
+    spans: list[Span] = field(default_factory=list)
 
 
 def guard_text(value: Value) -> str:
@@ -70,7 +71,7 @@ def word_of(value: Value) -> str:
     return value.literal if isinstance(value, Number) else value.word
 
 
-def held(value: Value, states: Set[str]) -> Optional[Set[str]]:
+def held(value: Value, states: set[str]) -> set[str] | None:
     """The environment states that a guard means, or None where it is none."""
     if isinstance(value, Constant):
         return states if value.constant else set()
@@ -95,12 +96,12 @@ class Picture:
     def __init__(self, checker: Checker, findings: Sequence[Finding]) -> None:
         self.checker = checker
         self.findings = findings
-        self.told: Set[Finding] = set()
+        self.told: set[Finding] = set()
         environment = self.part("environment", 0)
         self.states = {word_of(each) for each in listed(environment, "states")}
         self.picture = graph("LR", compound="true")
 
-    def part(self, word: str, number: int) -> Optional[Part]:
+    def part(self, word: str, number: int) -> Part | None:
         return next((p for p in self.checker.parts if (p.word, p.number) == (word, number)), None)
 
     def draw(self) -> Any:
@@ -145,7 +146,7 @@ class Picture:
         states = [word_of(each) for each in names]
         finals = {word_of(each) for each in listed(part, "final")}
         steps = [step for step in map(self.step, listed(part, "steps")) if step is not None]
-        still: List[str] = []
+        still: list[str] = []
         if part.word == "environment":
             steps, still = without_loops(steps, states)
         with self.picture.subgraph(name=f"cluster_{key}") as cluster:
@@ -187,7 +188,7 @@ class Picture:
             text += ": " + html(", ".join(self.services_of(name)) or "no service")
         return text
 
-    def services_of(self, behaviour: Optional[Value]) -> List[str]:
+    def services_of(self, behaviour: Value | None) -> list[str]:
         """The services of a behaviour, each with what is not as usual."""
         told = []
         for part in self.checker.parts:
@@ -202,7 +203,7 @@ class Picture:
             told.append((word_of(name) if name else "?") + (f" ({', '.join(notes)})" if notes else ""))
         return told
 
-    def step(self, value: Value) -> Optional[Drawn]:
+    def step(self, value: Value) -> Drawn | None:
         """A step, where it has the form of one."""
         if not isinstance(value, Items) or len(value.items) not in (3, 4):
             return None
@@ -212,18 +213,18 @@ class Picture:
         spans = [value.span, *(each.span for each in value.items)]
         return Drawn(word_of(one), word_of(other), word_of(action), text, holds, spans)
 
-    def arrows(self, steps: Sequence[Drawn], wrong: Dict[Span, Finding]) -> Dict[Arrow, List[str]]:
+    def arrows(self, steps: Sequence[Drawn], wrong: dict[Span, Finding]) -> dict[Arrow, list[str]]:
         """The arrows with their labels: those with equal ends and marks as one, and on each state one loop,
         since several would be drawn over one another."""
-        found: Dict[Arrow, Dict[str, None]] = {}
+        found: dict[Arrow, dict[str, None]] = {}
         for step in steps:
             marks = "guard" if step.guard else ""
             marks += "choice" if has_choice(step, steps) else ""
             marks += "wrong" if is_wrong(step, wrong) else ""
             label = label_of(step.action, step.guard, marks, step.state == step.to)
             found.setdefault((step.state, step.to, marks), {})[label] = None
-        merged: Dict[Arrow, Dict[str, None]] = {}
-        loops: Dict[str, List[str]] = {}
+        merged: dict[Arrow, dict[str, None]] = {}
+        loops: dict[str, list[str]] = {}
         for (state, to, marks), labels in found.items():
             if state == to:
                 loops.setdefault(state, []).append(marks)
@@ -256,13 +257,13 @@ def key_of(part: Part) -> str:
     return KEYS[part.word] + ("" if part.word == "environment" else str(part.number))
 
 
-def listed(part: Optional[Part], name: str) -> List[Value]:
+def listed(part: Part | None, name: str) -> list[Value]:
     """The items of a member that is a list."""
     value = part.value.get(name) if part else None
     return value.items if isinstance(value, Items) else []
 
 
-def is_constant(value: Optional[Value], constant: bool) -> bool:
+def is_constant(value: Value | None, constant: bool) -> bool:
     return isinstance(value, Constant) and value.constant is constant
 
 
@@ -280,9 +281,9 @@ def note(finding: Finding) -> str:
     return f"{finding.level.value}, line {finding.span.place[0]}: {finding.message}"
 
 
-def without_loops(steps: Sequence[Drawn], states: Sequence[str]) -> Tuple[List[Drawn], List[str]]:
+def without_loops(steps: Sequence[Drawn], states: Sequence[str]) -> tuple[list[Drawn], list[str]]:
     """The steps of the environment without those of actions that leave each of its states, and these actions."""
-    moves: Dict[str, Set[Tuple[str, str]]] = {}
+    moves: dict[str, set[tuple[str, str]]] = {}
     for step in steps:
         moves.setdefault(step.action, set()).add((step.state, step.to))
     all_loops = {(state, state) for state in states}
@@ -303,7 +304,7 @@ def has_choice(one: Drawn, steps: Iterable[Drawn]) -> bool:
     )
 
 
-def is_wrong(step: Drawn, wrong: Dict[Span, Finding]) -> bool:
+def is_wrong(step: Drawn, wrong: dict[Span, Finding]) -> bool:
     """Whether something is found in a step that isn't drawn at one of its states."""
     return any(within(span, each) for span in wrong for each in step.spans)
 
@@ -329,7 +330,7 @@ def room_of(labels: Iterable[str]) -> str:
     return str(max(8, 3 * widest - 36))
 
 
-def arrow_options(marks: str, labels: Sequence[str]) -> Dict[str, str]:
+def arrow_options(marks: str, labels: Sequence[str]) -> dict[str, str]:
     """How an arrow looks: a guard makes it dashed, a choice of the service orange, from a dot, and a finding
     red."""
     shown = list(labels)

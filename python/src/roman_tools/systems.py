@@ -3,8 +3,8 @@
 from __future__ import annotations
 
 import math
+from collections.abc import Iterator
 from dataclasses import dataclass, field
-from typing import Dict, Iterator, List, Optional, Set
 
 from .reader import Span
 
@@ -46,10 +46,10 @@ class Environment:
     """The environment: its states and actions, its start, its steps."""
 
     span: Span
-    states: List[Name] = field(default_factory=list)
-    actions: List[Name] = field(default_factory=list)
+    states: list[Name] = field(default_factory=list)
+    actions: list[Name] = field(default_factory=list)
     start: int = 0
-    moves: List[Move] = field(default_factory=list)
+    moves: list[Move] = field(default_factory=list)
 
     def taken(self, action: int) -> int:
         """The environment states, a bit for each, in which something can happen on an action."""
@@ -59,7 +59,7 @@ class Environment:
                 states |= 1 << move.state
         return states
 
-    def reached(self) -> Set[int]:
+    def reached(self) -> set[int]:
         """The states to which some way leads from the start."""
         return closure({self.start}, ((move.state, move.to) for move in self.moves))
 
@@ -69,14 +69,14 @@ class Machine:
     """A behaviour or a target."""
 
     span: Span
-    name: Optional[Name] = None
-    states: List[Name] = field(default_factory=list)
+    name: Name | None = None
+    states: list[Name] = field(default_factory=list)
     start: int = 0
-    finals: Set[int] = field(default_factory=set)
-    final_span: Optional[Span] = None
-    steps: List[Step] = field(default_factory=list)
+    finals: set[int] = field(default_factory=set)
+    final_span: Span | None = None
+    steps: list[Step] = field(default_factory=list)
 
-    def reached(self, starts: Set[int], live: List[Step]) -> Set[int]:
+    def reached(self, starts: set[int], live: list[Step]) -> set[int]:
         """The states to which some way of these steps leads from these states."""
         return closure(starts, ((step.state, step.to) for step in live))
 
@@ -102,9 +102,9 @@ class System:
     limit_span: Span
     """Where the limit stands, or would stand."""
     environment: Environment
-    behaviours: List[Machine]
-    services: List[Service]
-    targets: List[Machine]
+    behaviours: list[Machine]
+    services: list[Service]
+    targets: list[Machine]
 
     @property
     def cells(self) -> int:
@@ -113,14 +113,14 @@ class System:
         services = math.prod(len(self.behaviours[each.behaviour].states) for each in self.services)
         return target * len(self.environment.states) * services * len(self.combined_actions())
 
-    def combined_actions(self) -> List[str]:
+    def combined_actions(self) -> list[str]:
         """The actions of its sessions. Those of several targets name their target."""
         if self.version != 3:
             return [action.text for action in self.environment.actions]
         return combined_actions(self.environment, self.targets)
 
 
-def combined_actions(environment: Environment, targets: List[Machine]) -> List[str]:
+def combined_actions(environment: Environment, targets: list[Machine]) -> list[str]:
     """Target by target, the actions that stand in one of its steps whose guard some state meets."""
     return [
         f"{action.text}-{target.name.text if target.name else ''}"
@@ -130,9 +130,9 @@ def combined_actions(environment: Environment, targets: List[Machine]) -> List[s
     ]
 
 
-def closure(starts: Set[int], ways: Iterator[tuple[int, int]]) -> Set[int]:
+def closure(starts: set[int], ways: Iterator[tuple[int, int]]) -> set[int]:
     """The starts, and all to which the ways lead from them."""
-    after: Dict[int, Set[int]] = {}
+    after: dict[int, set[int]] = {}
     for one, other in ways:
         after.setdefault(one, set()).add(other)
     found = set(starts)

@@ -16,8 +16,8 @@ import readline
 import subprocess
 import sys
 import tempfile
+from collections.abc import Callable, Iterator, Sequence
 from pathlib import Path
-from typing import Callable, Dict, Iterator, List, Optional, Sequence, Tuple
 
 from roman_client import (
     Busy,
@@ -43,7 +43,7 @@ from .lint import UNREADABLE, WRONG
 from .pictures import Wrong
 from .systems import System
 
-EVENTS: Dict[str, Tuple[str, str]] = {
+EVENTS: dict[str, tuple[str, str]] = {
     "do": ("ACTION", "request an action; the services that may serve it are offered"),
     "use": ("SERVICE", "give the request to one of them"),
     "saw": ("STATE ENVIRONMENT", "say what became of it: the service's state, and the environment's"),
@@ -71,7 +71,7 @@ WIDTH = 30
 STUCK = "the target can go no further here, and isn't final"
 
 
-def due(action: Optional[str], offered: Sequence[str], used: Optional[str], allowed: Sequence[str]) -> str:
+def due(action: str | None, offered: Sequence[str], used: str | None, allowed: Sequence[str]) -> str:
     """Which line is due: the request that is open, to whom it is offered, who serves it; else what is allowed."""
     if used is not None:
         return f"{action} is open: saw, with the states of {used} and of the environment, or abort"
@@ -99,9 +99,9 @@ class Follower:
         self.document = document
         self.target = document.start
         self.environment = document.environment.start
-        self.action: Optional[str] = None
-        self.offered: Tuple[str, ...] = ()
-        self.used: Optional[str] = None
+        self.action: str | None = None
+        self.offered: tuple[str, ...] = ()
+        self.used: str | None = None
 
     def hear(self, line: Sequence[str], reply: Sequence[str]) -> None:
         """Takes a line and the words of its reply."""
@@ -117,13 +117,13 @@ class Follower:
             self.environment = line[1]
 
     @property
-    def allowed(self) -> Tuple[str, ...]:
+    def allowed(self) -> tuple[str, ...]:
         return self.document.allowed(self.target, self.environment)
 
     def due(self) -> str:
         return due(self.action, self.offered, self.used, self.allowed)
 
-    def hint(self, reply: str) -> Optional[str]:
+    def hint(self, reply: str) -> str | None:
         """What is shown below a reply, if anything."""
         if reply in OUT_OF_TURN:
             return out_of_turn(reply, self.due())
@@ -131,20 +131,20 @@ class Follower:
             return STUCK
         return None
 
-    def help(self) -> List[str]:
+    def help(self) -> list[str]:
         """What a line may be now."""
         words = turn_words(self.action, self.used) or [word for word in EVENTS if word not in ("use", "saw", "abort")]
         return [*help_lines(words), f"  now: {self.due()}"]
 
 
-def turn_words(action: Optional[str], used: Optional[str]) -> List[str]:
+def turn_words(action: str | None, used: str | None) -> list[str]:
     """The words with which a line may begin while a request is open."""
     if action is None:
         return []
     return ["use" if used is None else "saw", "abort", "report", "help", "quit"]
 
 
-def help_lines(words: Sequence[str]) -> List[str]:
+def help_lines(words: Sequence[str]) -> list[str]:
     """What lines that begin with these words do."""
     return [f"  {word + ' ' + EVENTS[word][0]:36} {EVENTS[word][1]}" for word in words]
 
@@ -211,26 +211,26 @@ class Talk:
         self.document = document
         self.session = session
         self.report: Report = session.opening
-        self.offer: Optional[Offer] = None
-        self.used: Optional[str] = None
+        self.offer: Offer | None = None
+        self.used: str | None = None
 
     # What may be said.
 
-    def states_of(self, behaviour: str) -> List[str]:
+    def states_of(self, behaviour: str) -> list[str]:
         found = self.document.behaviours.get(behaviour)
         return list(found.states) if found else []
 
-    def service_states(self, name: str) -> List[str]:
+    def service_states(self, name: str) -> list[str]:
         return next((self.states_of(s.behaviour) for s in self.report.services if s.name == name), [])
 
-    def allowed(self) -> List[str]:
+    def allowed(self) -> list[str]:
         """The actions that the target allows in the present states: those for which the program offers
         something, or for which it would where there is no composition."""
         if self.report.composition:
             return list(self.report.offers)
         return list(self.document.allowed(self.report.target, self.report.environment))
 
-    def events(self) -> List[str]:
+    def events(self) -> list[str]:
         """The words with which a line may begin now."""
         if self.offer is not None:
             return turn_words(self.offer.action, self.used)
@@ -243,16 +243,16 @@ class Talk:
             refused |= {"die", "jump"}
         return [word for word in EVENTS if word not in refused]
 
-    def names(self, words: Sequence[str]) -> List[str]:
+    def names(self, words: Sequence[str]) -> list[str]:
         """The names that may come behind these words."""
         event, given = words[0], words[1:]
         environments = list(self.document.environment.states)
         services = [service.name for service in self.report.services]
         if event == "join":
             behaviours = list(self.document.behaviours)
-            joined: List[List[str]] = [[], behaviours, self.states_of(given[1]) if len(given) > 1 else [], ["loose"]]
+            joined: list[list[str]] = [[], behaviours, self.states_of(given[1]) if len(given) > 1 else [], ["loose"]]
             return joined[len(given)] if len(given) < 4 else []
-        places: Dict[str, List[List[str]]] = {
+        places: dict[str, list[list[str]]] = {
             "do": [self.allowed()],
             "use": [list(self.offer.services) if self.offer else []],
             "saw": [self.service_states(self.used or ""), environments],
@@ -265,7 +265,7 @@ class Talk:
         lists = places.get(event, [])
         return lists[len(given)] if len(given) < len(lists) else []
 
-    def complete(self, before: str, text: str) -> List[str]:
+    def complete(self, before: str, text: str) -> list[str]:
         """The words that may stand where that one is begun."""
         words = before.split()
         known = self.names(words) if words else self.events()
@@ -296,7 +296,7 @@ class Talk:
     def is_stuck(self) -> bool:
         return not self.report.final and not self.allowed()
 
-    def remedies(self) -> List[str]:
+    def remedies(self) -> list[str]:
         """What would help where there is no composition."""
         found = mend(self.document, self.report, program=self.session.core.words)
         shown = [f"  now: {remedy.lines[0]} would help ({remedy})" for remedy in first_of_each(found, REMEDIES)]
@@ -378,7 +378,7 @@ class Talk:
         if event == "jumpenv":
             session.jumpenv(given[0])
             return "jumped"
-        changes: Dict[str, Callable[[str], object]] = {
+        changes: dict[str, Callable[[str], object]] = {
             "freeze": session.freeze,
             "thaw": session.thaw,
             "die": session.die,
@@ -426,7 +426,7 @@ def prepare(talk: Talk) -> None:
             history.parent.mkdir(parents=True, exist_ok=True)
             readline.write_history_file(history)
 
-    def complete(text: str, state: int) -> Optional[str]:
+    def complete(text: str, state: int) -> str | None:
         found = talk.complete(readline.get_line_buffer()[: readline.get_begidx()], text)
         return found[state] if state < len(found) else None
 
@@ -459,13 +459,13 @@ def talk_at_terminal(checker: Checker, system: System, roman: str) -> int:
         return session.quit()
 
 
-def unproved() -> Optional[str]:
+def unproved() -> str | None:
     """The script of the repository that runs the sources where the program isn't built."""
     script = program.PACKAGES.parents[1] / "roman"
     return str(script) if os.access(script, os.X_OK) and script.is_file() else None
 
 
-def main(arguments: Optional[Sequence[str]] = None) -> int:
+def main(arguments: Sequence[str] | None = None) -> int:
     words = argparse.ArgumentParser(prog="roman-talk", description=(__doc__ or "").split("\n\n", 1)[1])
     words.add_argument("system", metavar="SYSTEM")
     words.add_argument("--program", metavar="ROMAN", help="the program that answers")

@@ -3,8 +3,8 @@
 from __future__ import annotations
 
 import json
+from collections.abc import Sequence
 from dataclasses import dataclass, field
-from typing import Dict, List, Sequence, Tuple
 
 from .checks import LIMIT
 from .reader import Span
@@ -15,8 +15,8 @@ from .systems import Environment, Machine, Name, Service, System
 class Written:
     """A document's text, and where each of its names and steps comes from, by JSON pointers."""
 
-    lines: List[str] = field(default_factory=list)
-    places: Dict[str, Span] = field(default_factory=dict)
+    lines: list[str] = field(default_factory=list)
+    places: dict[str, Span] = field(default_factory=dict)
 
     @property
     def text(self) -> str:
@@ -66,7 +66,7 @@ def names_text(document: Written, pointer: str, names: Sequence[Name]) -> str:
 
 
 def environment_text(document: Written, env: Environment) -> str:
-    moves: Dict[Tuple[int, int, int], Span] = {}
+    moves: dict[tuple[int, int, int], Span] = {}
     for move in env.moves:
         moves.setdefault((move.state, move.action, move.to), move.span)
     steps = []
@@ -85,8 +85,8 @@ def environment_text(document: Written, env: Environment) -> str:
 def machine_text(document: Written, pointer: str, machine: Machine, env: Environment, depth: int, named: bool) -> str:
     """A behaviour or a target. Steps that only their guards tell apart are one; those that can never be taken
     are left out."""
-    guards: Dict[Tuple[int, int, int], int] = {}
-    spans: Dict[Tuple[int, int, int], Span] = {}
+    guards: dict[tuple[int, int, int], int] = {}
+    spans: dict[tuple[int, int, int], Span] = {}
     for step in machine.steps:
         if step.guard:
             key = (step.state, step.action, step.to)
@@ -127,7 +127,7 @@ def service_text(document: Written, number: int, system: System) -> str:
     document.places[f"/services/{number}"] = service.span
     behaviour = system.behaviours[service.behaviour]
     assert behaviour.name is not None
-    value: Dict[str, object] = {"name": service.name.text, "behaviour": behaviour.name.text}
+    value: dict[str, object] = {"name": service.name.text, "behaviour": behaviour.name.text}
     if service.state != behaviour.start:
         value["state"] = behaviour.states[service.state].text
     if service.frozen:

@@ -10,8 +10,9 @@ import subprocess
 import time
 import urllib.error
 import urllib.request
+from collections.abc import Callable
 from pathlib import Path
-from typing import IO, Any, Callable, Dict, List, Optional, Tuple, Type, Union
+from typing import IO, Any
 
 from . import PROGRAM, ROMAN_LIVE
 
@@ -32,7 +33,7 @@ def free_port() -> int:
                 continue
 
 
-def until(holds: Callable[[], Any], what: str, passing: Tuple[Type[Exception], ...] = ()) -> Any:
+def until(holds: Callable[[], Any], what: str, passing: tuple[type[Exception], ...] = ()) -> Any:
     """Waits until something is so, and gives it; an error that is `passing` says that it isn't so yet. Raises
     AssertionError where it takes far too long."""
     end = time.monotonic() + PATIENCE
@@ -51,7 +52,7 @@ def until(holds: Callable[[], Any], what: str, passing: Tuple[Type[Exception], .
 class Mosquitto:
     """A broker of its own, on that port or a free one. `more` is what else its file says."""
 
-    def __init__(self, folder: Path, more: str = "", port: Optional[int] = None) -> None:
+    def __init__(self, folder: Path, more: str = "", port: int | None = None) -> None:
         self.port = port or free_port()
         self._file = folder / "mosquitto.conf"
         self._file.write_text(
@@ -87,8 +88,8 @@ OPENER = urllib.request.build_opener(urllib.request.ProxyHandler({}))
 
 
 def call(
-    url: str, body: Any = None, headers: Optional[Dict[str, str]] = None, timeout: float = PATIENCE
-) -> Tuple[int, Any]:
+    url: str, body: Any = None, headers: dict[str, str] | None = None, timeout: float = PATIENCE
+) -> tuple[int, Any]:
     """Gets what is at a URL, or posts JSON to it. Gives the status and the JSON, or the text."""
     data = None if body is None else body if isinstance(body, bytes) else json.dumps(body).encode()
     given = {"Content-Type": "application/json"} if data is not None else {}
@@ -117,7 +118,7 @@ class Live:
         self.log = folder / "log"
         self.process: "subprocess.Popen[bytes]"
 
-    def start(self, wait: bool = True, output: Union[int, IO[bytes]] = subprocess.DEVNULL) -> None:
+    def start(self, wait: bool = True, output: int | IO[bytes] = subprocess.DEVNULL) -> None:
         """Starts it, and waits until its page is there."""
         with self.log.open("ab") as log:
             self.process = subprocess.Popen(
@@ -152,7 +153,7 @@ class Live:
         self.process.terminate()
         return self.process.wait(PATIENCE)
 
-    def programs(self) -> List[int]:
+    def programs(self) -> list[int]:
         """The processes of the program that it runs."""
         path = f"/proc/{self.process.pid}/task/{self.process.pid}/children"
         try:
@@ -161,30 +162,30 @@ class Live:
             return []
         return [int(each) for each in children if _runs(int(each))]
 
-    def get(self, path: str) -> Tuple[int, Any]:
+    def get(self, path: str) -> tuple[int, Any]:
         """Gets something."""
         return call(self.url + path)
 
-    def post(self, path: str, body: Any) -> Tuple[int, Any]:
+    def post(self, path: str, body: Any) -> tuple[int, Any]:
         """Posts something."""
         return call(self.url + path, body)
 
-    def state(self) -> Dict[str, Any]:
+    def state(self) -> dict[str, Any]:
         """Its state."""
         status, value = self.get("/state")
         assert status == 200, value
-        shown: Dict[str, Any] = value
+        shown: dict[str, Any] = value
         return shown
 
-    def service(self, name: str) -> Dict[str, Any]:
+    def service(self, name: str) -> dict[str, Any]:
         """A service in its state."""
         for each in self.state()["services"]:
             if each["name"] == name:
-                found: Dict[str, Any] = each
+                found: dict[str, Any] = each
                 return found
         raise AssertionError(f"{name} isn't shown")
 
-    def kinds(self, kind: str) -> List[str]:
+    def kinds(self, kind: str) -> list[str]:
         """The texts of the events of one kind."""
         request = urllib.request.Request(f"{self.url}/events")
         texts = []

@@ -20,7 +20,6 @@ import sys
 import tempfile
 import time
 from pathlib import Path
-from typing import Dict, List, Optional, Set, Tuple
 
 import roman_live.recovery
 from roman_client import NOT_DONE, Call, DeviceFailed, Document, NoComposition, aio
@@ -45,7 +44,7 @@ class World:
         self.states = {each.name: each.state for each in document.services}
         self.environment = document.environment.start
         self.target = document.start
-        self.done: Dict[str, Optional[int]] = {}
+        self.done: dict[str, int | None] = {}
         self.acted = 0
         self.failed = 0
         # The devices are no part of what is measured, so each thing is looked up once.
@@ -56,7 +55,7 @@ class World:
         """One of the actions that the target allows."""
         return self.chance.choice(self._allowed(self.target, self.environment))
 
-    def act(self, service: str, call: Call) -> Tuple[str, str]:
+    def act(self, service: str, call: Call) -> tuple[str, str]:
         """Has a service carry out an action, or fail."""
         if self.chance.random() < FAILURES:
             self.failed += 1
@@ -77,13 +76,13 @@ def device(service: str) -> aio.Device:
     """The device of a service."""
 
     class Simulated(aio.Device):
-        async def serve(self, call: Call) -> Tuple[str, str]:
+        async def serve(self, call: Call) -> tuple[str, str]:
             return WORLD.act(service, call)
 
         async def state(self, call: Call) -> Told:
             return NOT_DONE
 
-        async def present(self) -> Tuple[str, str]:
+        async def present(self) -> tuple[str, str]:
             """Where it is."""
             return WORLD.states[service], WORLD.environment
 
@@ -118,7 +117,7 @@ def share(who: int) -> float:
     return used.ru_utime + used.ru_stime
 
 
-async def soak(requests: int, folder: Path) -> List[str]:
+async def soak(requests: int, folder: Path) -> list[str]:
     """Runs the home, and gives what is said at the end."""
     global WORLD
     document = Document.load("home.json", TOP / "samples" / "live" / "demo")
@@ -134,7 +133,7 @@ async def soak(requests: int, folder: Path) -> List[str]:
     home_file.write_text(f'document = "home.json"\n{policy}{journal}{"".join(tables)}', encoding="utf-8")
     home = await Home.start(HomeFile.read(home_file))
     begun = time.monotonic()
-    pids: Set[Optional[int]] = {home.session.pid}
+    pids: set[int | None] = {home.session.pid}
     watching = asyncio.ensure_future(watch(home, pids))
     try:
         refused = await serve(home, requests)
@@ -157,7 +156,7 @@ async def soak(requests: int, folder: Path) -> List[str]:
     ]
 
 
-async def watch(home: Home, pids: Set[Optional[int]]) -> None:
+async def watch(home: Home, pids: set[int | None]) -> None:
     """Notes which programs there are."""
     while True:
         await asyncio.sleep(0.1)

@@ -7,7 +7,7 @@ import subprocess
 import tempfile
 import unittest
 from pathlib import Path
-from typing import List, Tuple
+from typing import Tuple
 from unittest import mock
 
 import paho.mqtt.client as mqtt  # type: ignore[import]
@@ -56,7 +56,7 @@ class Versions(unittest.TestCase):
     def test_paho_2_calls_back_as_paho_1_does(self) -> None:
         """Debian 12 has paho 1. The clients of paho 2 are made with a word more, in front of the others."""
         begin = mqtt.Client.__init__
-        words: List[object] = []
+        words: list[object] = []
 
         def begun(client: mqtt.Client, *given: object, **named: object) -> None:
             words.append(given)
@@ -71,7 +71,7 @@ class Versions(unittest.TestCase):
 
 class Refused(unittest.IsolatedAsyncioTestCase):
     async def test_it_is_said_which_topic(self) -> None:
-        said: List[Tuple[bool, str]] = []
+        said: list[tuple[bool, str]] = []
         connection = Connection(Broker(), lambda connected, text: said.append((connected, text)))
         connection._asked = {1: "home/window/answer", 2: "home/lamp/answer"}
         connection._agreed.clear()
@@ -89,7 +89,7 @@ class Unknown(unittest.IsolatedAsyncioTestCase):
         self.addCleanup(folder.cleanup)
         broker = Mosquitto(Path(folder.name), "allow_anonymous false\n")
         self.addCleanup(broker.stop)
-        said: List[str] = []
+        said: list[str] = []
         connection = Connection(Broker(port=broker.port), lambda connected, text: said.append(text))
         refused = connection._on_connect
         times: "asyncio.Queue[int]" = asyncio.Queue()
@@ -127,7 +127,7 @@ class Encrypted(unittest.IsolatedAsyncioTestCase):
         more = "".join(f"{word} {self.folder / file}\n" for word, file in files)
         self.broker = Mosquitto(self.folder, f"user root\n{more}require_certificate true\n")
         self.addCleanup(self.broker.stop)
-        self.said: List[Tuple[bool, str]] = []
+        self.said: list[tuple[bool, str]] = []
 
     def openssl(self, words: str) -> None:
         """Makes a key or a certificate."""

@@ -12,7 +12,7 @@ import sys
 import threading
 import time
 import unittest
-from typing import Any, Dict, List
+from typing import Any
 
 import paho.mqtt.client as mqtt  # type: ignore[import]
 import paho.mqtt.publish as publish  # type: ignore[import]
@@ -28,7 +28,7 @@ CHAPTER = GUIDE[GUIDE.index("## Running your devices") : GUIDE.index("## Samples
 def block(language: str) -> str:
     """The block of the chapter in that language, without what it is indented by."""
     blocks = re.findall(r"^( *)```(\w*)\n(.*?)^ *```$", CHAPTER, re.M | re.S)
-    ((indent, text),) = [(indent, text) for indent, name, text in blocks if name == language]
+    ((indent, text),) = ((indent, text) for indent, name, text in blocks if name == language)
     return str(re.sub(f"^{indent}", "", text, flags=re.M))
 
 
@@ -110,7 +110,7 @@ class OwnDevice(unittest.TestCase):
         home = self.porch(block("py"), "lines = true\nnumbered = true\n")
         for action in ("boil", "pour", "dim", "brighten"):
             home.post("requests", {"action": action})
-        (porch,) = [each for each in home.state()["services"] if each["name"] == "porch"]
+        (porch,) = (each for each in home.state()["services"] if each["name"] == "porch")
         self.assertEqual((porch["status"], porch["state"], porch["last_error"]), ("ready", "on", None))
 
 
@@ -143,7 +143,7 @@ class Answers:
     """What is on the topic of answers."""
 
     def __init__(self, port: int) -> None:
-        self.heard: List[Dict[str, Any]] = []
+        self.heard: list[dict[str, Any]] = []
         subscribed = threading.Event()
         self._client = mqtt.Client()
         self._client.on_message = lambda client, data, message: self.heard.append(json.loads(message.payload))

@@ -6,8 +6,9 @@ import asyncio
 import sys
 import tempfile
 import unittest
+from collections.abc import Callable
 from pathlib import Path
-from typing import Any, Callable, List, Tuple
+from typing import Any
 
 from roman_client import Call, DeviceFailed
 from roman_live.config import CommandReach
@@ -49,8 +50,8 @@ class Heard:
     """What the home is told."""
 
     def __init__(self) -> None:
-        self.places: List[Tuple[str, Answer]] = []
-        self.texts: List[str] = []
+        self.places: list[tuple[str, Answer]] = []
+        self.texts: list[str] = []
 
     def moved(self, service: str, answer: Answer) -> None:
         self.places.append((service, answer))
@@ -82,7 +83,7 @@ class Kept(unittest.IsolatedAsyncioTestCase):
         self.addAsyncCleanup(self.device.close)
         self.calls = 0
 
-    async def ask(self, action: str) -> Tuple[str, str]:
+    async def ask(self, action: str) -> tuple[str, str]:
         """What it answers, and by which process."""
         self.calls += 1
         answer = await self.device.ask(self.calls, Call("window", action, action, self.calls))

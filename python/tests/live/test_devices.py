@@ -7,7 +7,7 @@ import tempfile
 import threading
 import unittest
 from pathlib import Path
-from typing import Any, Dict, List, Tuple
+from typing import Any
 
 from roman_client import Document
 
@@ -68,10 +68,10 @@ seconds = {self.seconds("kettle")}
     def seconds(self, service: str) -> float:
         return 3.0 if service == self.impatient else PATIENCE
 
-    def request(self, action: str) -> Tuple[int, Dict[str, Any]]:
+    def request(self, action: str) -> tuple[int, dict[str, Any]]:
         return self.live.post("/requests", {"action": action})
 
-    def served(self, action: str) -> Dict[str, Any]:
+    def served(self, action: str) -> dict[str, Any]:
         status, value = self.request(action)
         self.assertEqual(status, 200, value)
         return value
@@ -179,7 +179,7 @@ class Serving(Devices):
         self.assertEqual(self.live.service("window")["status"], "ready")
 
     def test_requests_and_the_environment_over_mqtt(self) -> None:
-        answers: List[Any] = []
+        answers: list[Any] = []
         heard = threading.Event()
 
         def hear(client: Any, data: Any, message: Any) -> None:
@@ -209,7 +209,7 @@ class Serving(Devices):
 
     def test_it_ends_when_the_open_request_is_served(self) -> None:
         self.world.manners["window"] = "late"
-        answers: List[Any] = []
+        answers: list[Any] = []
         asking = threading.Thread(target=lambda: answers.append(self.request("brighten")))
         asking.start()
         until(lambda: self.world.asked, "the call")
@@ -253,7 +253,7 @@ class Serving(Devices):
         self.assertIn("does this home run already?", second.text())
 
     def test_the_state_is_on_the_broker(self) -> None:
-        states: List[Dict[str, Any]] = []
+        states: list[dict[str, Any]] = []
         client = self.mqtt.client
         client.message_callback_add(
             "roman/state", lambda client, data, message: states.append(json.loads(message.payload))

@@ -4,8 +4,9 @@ Node-RED."""
 from __future__ import annotations
 
 import json
+from collections.abc import Iterator
 from pathlib import Path
-from typing import Any, Iterator
+from typing import Any
 
 import jinja2
 import paho.mqtt.client as mqtt  # type: ignore[import]
@@ -189,10 +190,10 @@ def test_the_flow_of_node_red_can_be_imported() -> None:
 def test_the_flow_requests_and_hears_the_answer(live: Live, assistant: Assistant) -> None:
     """What its nodes send is served, and what they listen to comes."""
     flow = json.loads(FLOW.read_text(encoding="utf-8").replace("demo/", "kitchen/"))
-    (inject,) = [node for node in flow if node["type"] == "inject"]
-    (change,) = [node for node in flow if node["type"] == "change"]
-    (out,) = [node for node in flow if node["type"] == "mqtt out"]
-    (hears,) = [node for node in flow if node["type"] == "mqtt in"]
+    (inject,) = (node for node in flow if node["type"] == "inject")
+    (change,) = (node for node in flow if node["type"] == "change")
+    (out,) = (node for node in flow if node["type"] == "mqtt out")
+    (hears,) = (node for node in flow if node["type"] == "mqtt in")
     assert inject["wires"] == [[change["id"]]] and change["wires"] == [[out["id"]]]
     (rule,) = change["rules"]
     assert (rule["t"], rule["p"], rule["tot"]) == ("set", "payload", "json")
@@ -200,5 +201,5 @@ def test_the_flow_requests_and_hears_the_answer(live: Live, assistant: Assistant
     until(lambda: hears["topic"] in assistant.seen, "the answer")
     answer = json.loads(assistant.seen[hears["topic"]])
     assert (answer["status"], answer["served_by"]) == (200, "window")
-    (switch,) = [node for node in flow if node["type"] == "switch"]
+    (switch,) = (node for node in flow if node["type"] == "switch")
     assert switch["property"] == "payload.status" and len(switch["rules"]) == switch["outputs"] == len(switch["wires"])

@@ -8,7 +8,7 @@ import tempfile
 import unittest
 from dataclasses import replace
 from pathlib import Path
-from typing import Any, Dict, List, Optional
+from typing import Any
 from unittest import mock
 
 from roman_client import Call, DeviceFailed, Frozen, InDoubt, StoreLocked
@@ -48,7 +48,7 @@ class Played(Reach):
         self.test.states[self.service] = state
         return Answer(state, environment)
 
-    async def tell(self, number: Optional[int], call: Optional[Call] = None) -> Optional[Answer]:
+    async def tell(self, number: int | None, call: Call | None = None) -> Answer | None:
         self.test.told.append(self.service)
         waited = self.test.mute.get(self.service)
         if waited is not None:
@@ -69,13 +69,13 @@ class InProcess(unittest.IsolatedAsyncioTestCase):
         folder = tempfile.TemporaryDirectory()
         self.addCleanup(folder.cleanup)
         self.folder = Path(folder.name)
-        self.asked: List[str] = []
-        self.told: List[str] = []
+        self.asked: list[str] = []
+        self.told: list[str] = []
         self.broken: set[str] = set()
-        self.states: Dict[str, str] = {}
-        self.environment: Optional[str] = None
-        self.gates: Dict[str, asyncio.Event] = {}
-        self.mute: Dict[str, asyncio.Event] = {}
+        self.states: dict[str, str] = {}
+        self.environment: str | None = None
+        self.gates: dict[str, asyncio.Event] = {}
+        self.mute: dict[str, asyncio.Event] = {}
         self.home: Home
 
     async def begin(self, name: str, more: str = "") -> Home:
@@ -101,13 +101,13 @@ class InProcess(unittest.IsolatedAsyncioTestCase):
             await asyncio.sleep(0.01)
         self.fail("it didn't come")
 
-    async def service(self, name: str) -> Dict[str, Any]:
+    async def service(self, name: str) -> dict[str, Any]:
         (found,) = (each for each in (await self.home.shown.state())["services"] if each["name"] == name)
         return dict(found)
 
 
 class Policies(InProcess):
-    async def served_by(self, more: str, actions: List[str]) -> List[str]:
+    async def served_by(self, more: str, actions: list[str]) -> list[str]:
         home = await self.begin("depot", more)
         return [(await home.requests.serve(each))["served_by"] for each in actions]
 
@@ -378,9 +378,9 @@ class ShortForm(InProcess):
 
 class AskedBack(InProcess):
     async def test_pauses_grow_and_end_when_it_is_back(self) -> None:
-        pauses: List[Optional[float]] = []
+        pauses: list[float | None] = []
 
-        async def quick(poke: asyncio.Event, seconds: Optional[float]) -> None:
+        async def quick(poke: asyncio.Event, seconds: float | None) -> None:
             pauses.append(seconds)
             await asyncio.sleep(0)
 
@@ -474,7 +474,7 @@ class AskedBack(InProcess):
 class ProgramHangs(InProcess):
     """The program is there, and says nothing any more."""
 
-    def kinds(self) -> Dict[str, str]:
+    def kinds(self) -> dict[str, str]:
         """The newest text of each kind of event."""
         return {each.kind: each.text for each in self.home.events.after("")}
 

@@ -60,7 +60,7 @@ def test_a_start_without_composition_says_why(tmp_path: Path) -> None:
     flaky = json.loads((TOP / "samples" / "flaky.json").read_text(encoding="utf-8"))
     with simulated(tmp_path, flaky) as (_, lines):
         pass
-    (said,) = [line for line in lines if "no composition" in line]
+    (said,) = (line for line in lines if "no composition" in line)
     assert "if on is requested, f1 may answer stuck e" in said
     assert f"roman-draw {tmp_path / 'home.json'} --why --text shows the rest" in said
 

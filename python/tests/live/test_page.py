@@ -7,7 +7,7 @@ import threading
 import unittest
 import urllib.request
 from http.server import BaseHTTPRequestHandler, ThreadingHTTPServer
-from typing import Any, ClassVar, List
+from typing import Any, ClassVar
 
 from selenium.common.exceptions import ElementClickInterceptedException
 from selenium.webdriver.common.keys import Keys
@@ -113,7 +113,7 @@ class Browsing(unittest.TestCase):
         self.find("#confirm").click()
         wait_until(lambda: not self.find("#dialog").is_displayed(), "the end of the dialog")
 
-    def complaints(self) -> List[str]:
+    def complaints(self) -> list[str]:
         """What the browser complained of."""
         return [each["message"] for each in self.driver.get_log("browser")]
 
@@ -131,7 +131,7 @@ class ThePage(Browsing):
         self.open(self.home)
 
     def status(self, name: str) -> str:
-        (service,) = [each for each in self.home.state()["services"] if each["name"] == name]
+        (service,) = (each for each in self.home.state()["services"] if each["name"] == name)
         return str(service["status"])
 
     def test_a_request_is_served(self) -> None:
@@ -311,7 +311,7 @@ class ThePage(Browsing):
         names = "return [...document.querySelectorAll('#drawn .{}')].map(each => each.{})"
         title = "querySelector('title').textContent"
 
-        def shown(kind: str, what: str = title) -> List[str]:
+        def shown(kind: str, what: str = title) -> list[str]:
             return sorted(self.driver.execute_script(names.format(kind, what)))
 
         wait_until(lambda: shown("present"), "the drawing")

@@ -12,7 +12,7 @@ import threading
 import time
 import unittest
 from pathlib import Path
-from typing import Any, Optional
+from typing import Any
 from unittest import mock
 
 from roman_client import Call, DeviceFailed
@@ -30,7 +30,7 @@ CALL = Call("lamp", "brighten", "brighten", 1)
 
 
 class Commands(unittest.IsolatedAsyncioTestCase):
-    async def run_one(self, script: str) -> Optional[Answer]:
+    async def run_one(self, script: str) -> Answer | None:
         entry = CommandReach((sys.executable, "-c", script), False, Path.cwd())
         with tempfile.TemporaryDirectory() as folder:
             device = Command("lamp", Heard(), entry, Processes(Path(folder) / "commands"), None)

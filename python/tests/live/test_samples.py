@@ -10,8 +10,8 @@ import re
 import shutil
 import subprocess
 import sys
+from collections.abc import Iterator
 from pathlib import Path
-from typing import Iterator
 
 import pytest
 import tomllib
@@ -30,7 +30,7 @@ SECONDS, LATE = 1.0, 1.6
 """The deadline of each device here, and when a late one acts."""
 
 
-def start_devices(file: Path, broker: int, *words: str) -> "subprocess.Popen[bytes]":
+def start_devices(file: Path, broker: int, *words: str) -> subprocess.Popen[bytes]:
     """Starts simulated devices."""
     devices = subprocess.Popen(
         [sys.executable, "-m", "simulators", str(file), "--broker", str(broker), "--pace", "0.05", "--hands", *words],
@@ -42,7 +42,7 @@ def start_devices(file: Path, broker: int, *words: str) -> "subprocess.Popen[byt
     return devices
 
 
-def end_devices(devices: "subprocess.Popen[bytes]") -> None:
+def end_devices(devices: subprocess.Popen[bytes]) -> None:
     """Ends simulated devices."""
     devices.terminate()
     devices.communicate(timeout=PATIENCE)

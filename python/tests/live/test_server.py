@@ -10,7 +10,7 @@ import unittest
 import urllib.request
 from http.server import BaseHTTPRequestHandler, HTTPServer
 from pathlib import Path
-from typing import Any, Dict, List
+from typing import Any
 
 from . import ROMAN_LIVE, sample
 from .machinery import OPENER, PATIENCE, Live, call, until
@@ -53,7 +53,7 @@ class Served(unittest.TestCase):
     """A home with devices in Python."""
 
     page = ""
-    words: List[str] = []
+    words: list[str] = []
     journal = ""
 
     def setUp(self) -> None:
@@ -197,10 +197,10 @@ class Api(Served):
         status, value = call(f"{self.live.url}/events", None, {"Last-Event-ID": f"{run}-" + "9" * 5000})
         self.assertEqual((status, value), (400, {"error": "a Last-Event-ID has at most 64 letters"}))
 
-    def events(self, headers: Dict[str, str]) -> List[Dict[str, Any]]:
+    def events(self, headers: dict[str, str]) -> list[dict[str, Any]]:
         """The events before the first state."""
         request = urllib.request.Request(f"{self.live.url}/events", headers=headers)
-        events: List[Dict[str, Any]] = []
+        events: list[dict[str, Any]] = []
         with OPENER.open(request, timeout=PATIENCE) as response:
             for line in response:
                 if line == b"event: state\n":
@@ -257,7 +257,7 @@ class Token(Served):
         self.live.start(wait=False)
         until(lambda: self.status({}) == 401, "the page")
 
-    def status(self, headers: Dict[str, str], path: str = "/state") -> int:
+    def status(self, headers: dict[str, str], path: str = "/state") -> int:
         try:
             return call(f"{self.live.url}{path}", None, headers)[0]
         except OSError:

@@ -10,7 +10,6 @@ import tempfile
 import threading
 import unittest
 from pathlib import Path
-from typing import List
 from unittest import mock
 
 from roman_live.command_line import PATIENCE as PATIENCE_OF_THE_HOME
@@ -26,7 +25,7 @@ class Systemd:
     """What listens on NOTIFY_SOCKET. It always does, since the socket holds a few messages only."""
 
     def __init__(self, path: Path) -> None:
-        self.heard: List[bytes] = []
+        self.heard: list[bytes] = []
         self._socket = socket.socket(socket.AF_UNIX, socket.SOCK_DGRAM)
         self._socket.bind(str(path))
         threading.Thread(target=self._listen, daemon=True).start()

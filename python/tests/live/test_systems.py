@@ -4,7 +4,8 @@ from __future__ import annotations
 
 import json
 import unittest
-from typing import Any, Callable, Dict, List
+from collections.abc import Callable
+from typing import Any
 
 import jinja2
 import paho.mqtt.client as mqtt  # type: ignore[import]
@@ -36,15 +37,15 @@ class Automation:
         (self.written,) = yaml.safe_load(text)
         self.topic: str = self.written["trigger"]["topic"]
         self.lights = {"light.ceiling": "off"}
-        self.published: Dict[str, str] = {}
+        self.published: dict[str, str] = {}
 
-    def run(self, message: str) -> Dict[str, str]:
+    def run(self, message: str) -> dict[str, str]:
         """What it publishes when a message comes on its topic."""
         self.published = {}
         self.steps(self.written["action"], {"payload_json": json.loads(message)})
         return self.published
 
-    def steps(self, steps: List[Any], trigger: Any) -> None:
+    def steps(self, steps: list[Any], trigger: Any) -> None:
         for step in steps:
             if "if" in step:
                 if self.render(step["if"], trigger) == "True":
@@ -74,9 +75,9 @@ class Ceiling:
     """The ceiling lamp at a broker. What it answers to a message is what `answer` makes of it."""
 
     def __init__(self, port: int, answer: Callable[[str], str]) -> None:
-        self.heard: List[Any] = []
+        self.heard: list[Any] = []
         self._answer = answer
-        subscribed: List[bool] = []
+        subscribed: list[bool] = []
         self._client = mqtt.Client()
         self._client.on_message = self._asked
         self._client.on_subscribe = lambda *words: subscribed.append(True)

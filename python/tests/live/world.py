@@ -12,7 +12,7 @@ import threading
 import urllib.error
 import urllib.request
 from http.server import BaseHTTPRequestHandler, ThreadingHTTPServer
-from typing import Any, Dict, List, Optional, Set, Tuple
+from typing import Any
 
 if __name__ != "__main__":
     import paho.mqtt.client as mqtt  # type: ignore[import]
@@ -21,7 +21,7 @@ if __name__ != "__main__":
 
     from .machinery import PATIENCE
 
-Told = Dict[str, Any]
+Told = dict[str, Any]
 
 
 class World:
@@ -37,17 +37,17 @@ class World:
         self.behaviours = {each.name: each.behaviour for each in document.services}
         self.states = {each.name: each.state for each in document.services}
         self.environment = document.environment.start
-        self.done: Dict[int, Told] = {}
-        self.refused: Set[int] = set()
-        self.played: List[Tuple[str, str]] = []
-        self.asked: List[Tuple[str, str]] = []
-        self.wrong: List[str] = []
-        self.manners: Dict[str, str] = {}
-        self.mute: Set[str] = set()
+        self.done: dict[int, Told] = {}
+        self.refused: set[int] = set()
+        self.played: list[tuple[str, str]] = []
+        self.asked: list[tuple[str, str]] = []
+        self.wrong: list[str] = []
+        self.manners: dict[str, str] = {}
+        self.mute: set[str] = set()
         self.failing = 0.0
         self.release = threading.Event()
 
-    def serve(self, service: str, action: str, number: Optional[int]) -> List[Told]:
+    def serve(self, service: str, action: str, number: int | None) -> list[Told]:
         """The answers to a call, one after the other; none where it hangs."""
         manner = self.manners.get(service, "")
         with self.lock:
@@ -71,7 +71,7 @@ class World:
             self.release.wait()
         return [told, told] if manner == "twice" else [told]
 
-    def play(self, service: str, action: str, number: Optional[int]) -> Told:
+    def play(self, service: str, action: str, number: int | None) -> Told:
         """Has a service carry out an action."""
         with self.lock:
             if number is not None and number in self.done:
@@ -96,7 +96,7 @@ class World:
             self.played.append((service, action))
             return told
 
-    def tell(self, service: str, number: Optional[int]) -> Told:
+    def tell(self, service: str, number: int | None) -> Told:
         """Where a service is, and whether it did that call."""
         if self.manners.get(service) == "hang" or service in self.mute:
             self.release.wait()
@@ -166,11 +166,11 @@ class MqttDevices:
     """Services of a world over MQTT, asked on `NAME/ask`, answering on `NAME/answer`. Those with a `name` have
     a session that stays while they are away."""
 
-    def __init__(self, world: World, port: int, services: List[str], name: str = "") -> None:
+    def __init__(self, world: World, port: int, services: list[str], name: str = "") -> None:
         self.world = world
         self.services = services
         self.subscribed = threading.Event()
-        self.heard: List[Told] = []
+        self.heard: list[Told] = []
         self.client = mqtt.Client(client_id=name, clean_session=not name)
         self.client.reconnect_delay_set(1, 1)
         self.client.on_connect = self._connected

@@ -12,7 +12,7 @@ import sys
 import threading
 import time
 from http.server import BaseHTTPRequestHandler, ThreadingHTTPServer
-from typing import Any, Optional
+from typing import Any
 from urllib.parse import parse_qs, urlsplit
 
 STEPS = {
@@ -28,7 +28,7 @@ class Kettle(BaseHTTPRequestHandler):
     """One request to the kettle. All requests share its state."""
 
     state = "empty"
-    last: Optional[int] = None
+    last: int | None = None
     refused: set[int] = set()
     at_work = threading.Lock()
 

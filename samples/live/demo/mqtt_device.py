@@ -9,14 +9,15 @@ import os
 import random
 import sys
 import time
+from collections.abc import Sequence
 from pathlib import Path
-from typing import Any, Dict, List, Optional, Sequence, Tuple
+from typing import Any
 
 import paho.mqtt.client as mqtt  # type: ignore[import]
 
-Steps = Dict[Tuple[str, str], Sequence[str]]
+Steps = dict[tuple[str, str], Sequence[str]]
 
-BEHAVIOURS: Dict[str, Steps] = {
+BEHAVIOURS: dict[str, Steps] = {
     "blind": {
         ("shut", "brighten"): ("open",),
         ("ajar", "brighten"): ("open",),
@@ -45,7 +46,7 @@ class Device:
         self.client.on_message = self.asked
         self.client.connect(os.environ.get("DEMO_BROKER", "127.0.0.1"), port)
 
-    def remembered(self) -> Tuple[str, Optional[int], List[int]]:
+    def remembered(self) -> tuple[str, int | None, list[int]]:
         """Its state when it ended, the last call that it carried out, and those that it refuses."""
         if not self.file.exists():
             return next(iter(self.steps))[0], None, []
@@ -82,7 +83,7 @@ class Device:
             self.remember()
             self.say(id=number, state=self.state)
 
-    def tell(self, number: int, about: Optional[int]) -> None:
+    def tell(self, number: int, about: int | None) -> None:
         """Tells its state, and whether it did a call. One that it didn't do may still be on its way: it is refused from
         then on."""
         if about is not None and about != self.last and about not in self.refused:

@@ -11,9 +11,11 @@ import asyncio
 import logging
 import signal
 import sys
-import tomllib
+from collections.abc import Callable
 from pathlib import Path
-from typing import Any, Callable
+from typing import Any
+
+import tomllib
 
 from . import esphome, home_assistant, modbus, shelly, tasmota, zigbee2mqtt
 from .base import Settings

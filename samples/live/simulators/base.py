@@ -5,9 +5,10 @@ from __future__ import annotations
 import asyncio
 import json
 import random
+from collections.abc import Callable, Coroutine
 from dataclasses import dataclass
 from pathlib import Path
-from typing import Callable, Coroutine, Protocol
+from typing import Protocol
 
 
 @dataclass(frozen=True)

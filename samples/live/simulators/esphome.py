@@ -50,8 +50,10 @@ class Node(HttpDevice):
 
     async def _post(self, request: web.Request) -> web.Response:
         self._check(request)
-        words = {"switch": {"turn_on": 1, "turn_off": 0, "toggle": 1 - int(bool(self.value))},
-                 "cover": {"open": 1, "close": 0}}.get(self.component, {})
+        words = {
+            "switch": {"turn_on": 1, "turn_off": 0, "toggle": 1 - int(bool(self.value))},
+            "cover": {"open": 1, "close": 0},
+        }.get(self.component, {})
         to = words.get(request.match_info["word"])
         if to is None:
             raise web.HTTPNotFound()

@@ -12,7 +12,7 @@ from typing import Any
 from aiohttp import web
 
 from .base import Settings
-from .http import HttpDevice, Handler
+from .http import Handler, HttpDevice
 
 SERVICES = {
     ("light", "turn_on"): "on",

@@ -9,7 +9,8 @@ from __future__ import annotations
 
 import asyncio
 import json
-from typing import Any, Mapping
+from collections.abc import Mapping
+from typing import Any
 
 from aiohttp import web
 
@@ -104,7 +105,11 @@ class Switch(HttpDevice):
         self.on = False
 
     def routes(self) -> list[web.RouteDef]:
-        return [web.get("/rpc/{method}", self._get), web.post("/rpc/{method}", self._post), web.post("/rpc", self._frame)]
+        return [
+            web.get("/rpc/{method}", self._get),
+            web.post("/rpc/{method}", self._post),
+            web.post("/rpc", self._frame),
+        ]
 
     @property
     def message(self) -> str:
@@ -113,7 +118,9 @@ class Switch(HttpDevice):
         return json.dumps({"id": 0, "source": "HTTP_in", "output": self.on, **figures})
 
     async def _get(self, request: web.Request) -> web.Response:
-        words = {name: json.loads(text) if text in ("true", "false", "0") else text for name, text in request.query.items()}
+        words = {
+            name: json.loads(text) if text in ("true", "false", "0") else text for name, text in request.query.items()
+        }
         return self._answer(await self._call(request.match_info["method"], words))
 
     async def _post(self, request: web.Request) -> web.Response:

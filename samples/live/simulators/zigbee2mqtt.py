@@ -23,7 +23,10 @@ KINDS: dict[str, dict[str, Any]] = {
 
 WORDS = {
     "light": {"ON": {"state": "ON"}, "OFF": {"state": "OFF"}},
-    "lock": {"LOCK": {"state": "LOCK", "lock_state": "locked"}, "UNLOCK": {"state": "UNLOCK", "lock_state": "unlocked"}},
+    "lock": {
+        "LOCK": {"state": "LOCK", "lock_state": "locked"},
+        "UNLOCK": {"state": "UNLOCK", "lock_state": "unlocked"},
+    },
     "cover": {"OPEN": {"state": "OPEN", "position": 100}, "CLOSE": {"state": "CLOSE", "position": 0}},
     "sensor": {},
 }

@@ -6,8 +6,9 @@ import asyncio
 import functools
 import inspect
 import logging
+from collections.abc import Awaitable, Callable, Coroutine, Mapping
 from types import TracebackType
-from typing import Any, Awaitable, Callable, Coroutine, FrozenSet, Mapping, Optional, Set, Type, Union
+from typing import Any, Optional
 
 from .. import protocol
 from ..core import Dispatching, Posted
@@ -42,13 +43,13 @@ class Dispatcher:
     def __init__(
         self,
         session: Session,
-        devices: Mapping[str, Union[Device, Act]],
+        devices: Mapping[str, Device | Act],
         *,
         policy: Policy = first_offered,
-        back: Optional[Back] = None,
-        on_failure: Optional[Callable[[Failure], None]] = None,
-        store: Union[PathLike, Store, None] = None,
-        watch: Optional[Watch] = None,
+        back: Back | None = None,
+        on_failure: Callable[[Failure], None] | None = None,
+        store: PathLike | Store | None = None,
+        watch: Watch | None = None,
     ) -> None:
         """The words are those of `roman_client.Dispatcher`. The session has begun when this begins. The store may
         be one that is open; it is closed with this."""
@@ -63,8 +64,8 @@ class Dispatcher:
         )
         self._begun = False
         self._turn = asyncio.Lock()
-        self._inside: Optional["asyncio.Task[Any]"] = None
-        self._draining: Set["asyncio.Task[None]"] = set()
+        self._inside: Optional[asyncio.Task[Any]] = None
+        self._draining: set[asyncio.Task[None]] = set()
 
     async def begin(self) -> Dispatcher:
         """Takes the session as it stands, or has it go on from the store. Raises `StoreBroken` if that isn't one for
@@ -92,7 +93,7 @@ class Dispatcher:
         return self._core.devices
 
     @property
-    def failed(self) -> FrozenSet[str]:
+    def failed(self) -> frozenset[str]:
         """The services that are frozen since they failed, or were when the dispatcher began."""
         return self.core.failed
 
@@ -102,12 +103,12 @@ class Dispatcher:
         return self.core.position.served
 
     @property
-    def under_way(self) -> Optional[Call]:
+    def under_way(self) -> Call | None:
         """What a device is at work on."""
         return self.core.under_way
 
     @property
-    def recovered(self) -> Optional[Recovery]:
+    def recovered(self) -> Recovery | None:
         """What became of the call that was under way when the dispatcher was killed."""
         return self.core.recovered
 
@@ -124,7 +125,7 @@ class Dispatcher:
 
     # Requests.
 
-    async def request(self, action: str, key: Optional[str] = None, source: str | None = None) -> Done:
+    async def request(self, action: str, key: str | None = None, source: str | None = None) -> Done:
         """Has an action served, as `roman_client.Dispatcher.request` does."""
         return await self._in_turn(lambda: self.core.request(action, key, source))
 
@@ -134,7 +135,7 @@ class Dispatcher:
         service: str,
         state: str,
         environment: str,
-        key: Optional[str] = None,
+        key: str | None = None,
         source: str | None = None,
     ) -> Done:
         """Takes a request as served, with that outcome, and asks no device: so a request that was in doubt
@@ -147,7 +148,7 @@ class Dispatcher:
         """Makes a change of `roman_client.protocol`, with its source for the history."""
         return await self._in_turn(lambda: self.core.event(event, source=source))
 
-    async def thaw(self, service: str, state: Optional[str] = None, source: str | None = None) -> Repair:
+    async def thaw(self, service: str, state: str | None = None, source: str | None = None) -> Repair:
         """A frozen service is back, in that state, or in the one that it had."""
         return await self._in_turn(lambda: self.core.thaw(service, state, source))
 
@@ -164,7 +165,7 @@ class Dispatcher:
         service: str,
         behaviour: str,
         state: str,
-        device: Union[Device, Act],
+        device: Device | Act,
         *,
         loose: bool = False,
         source: str | None = None,
@@ -182,10 +183,10 @@ class Dispatcher:
 
     def post(
         self, event: Event[Value], cause: Frozen = Frozen.BY_HAND, source: str | None = None
-    ) -> "asyncio.Future[Value]":
+    ) -> asyncio.Future[Value]:
         """Has a change of `roman_client.protocol` made, as `jumpenv("dusk")`, without waiting for it: soon, or in its
         turn if a request is open. It can be called by devices and policies, too. A freeze has that cause."""
-        future: "asyncio.Future[Value]" = asyncio.get_running_loop().create_future()
+        future: asyncio.Future[Value] = asyncio.get_running_loop().create_future()
         self.core.inbox.append(Posted(event, cause, source, functools.partial(settle, future)))
         self._drain_later()
         return future
@@ -202,9 +203,9 @@ class Dispatcher:
 
     async def __aexit__(
         self,
-        kind: Optional[Type[BaseException]],
-        error: Optional[BaseException],
-        trace: Optional[TracebackType],
+        kind: type[BaseException] | None,
+        error: BaseException | None,
+        trace: TracebackType | None,
     ) -> None:
         await self.close()
 
@@ -232,7 +233,7 @@ class Dispatcher:
         async with self._turn:
             await run(self.core.turn(_nothing), self._perform)
 
-    async def _within(self, work: Coroutine[Any, Any, Value], timeout: Optional[float]) -> Value:
+    async def _within(self, work: Coroutine[Any, Any, Value], timeout: float | None) -> Value:
         """Awaits what is the owner's, which can't wait for its own request, until its deadline."""
         task = asyncio.ensure_future(work)
         self._inside = task
@@ -295,7 +296,7 @@ class Dispatcher:
         if isinstance(effect.notice, Failure):
             self._told(self._on_failure, effect.notice)
 
-    def _told(self, listener: Optional[Callable[[Any], None]], notice: Notice) -> None:
+    def _told(self, listener: Callable[[Any], None] | None, notice: Notice) -> None:
         """Tells a listener, whose errors are logged."""
         if listener is None:
             return
@@ -304,7 +305,7 @@ class Dispatcher:
         except Exception:
             LOG.exception("a listener failed at %r", notice)
 
-    _performers: Mapping[Type[Effect], Callable[[Any, Any], Awaitable[Any]]] = {
+    _performers: Mapping[type[Effect], Callable[[Any, Any], Awaitable[Any]]] = {
         Tell: _tell,
         Restore: _restore,
         Serve: _serve,
@@ -317,7 +318,7 @@ class Dispatcher:
     }
 
 
-def settle(future: "asyncio.Future[Any]", value: Any, error: Optional[BaseException]) -> None:
+def settle(future: asyncio.Future[Any], value: Any, error: BaseException | None) -> None:
     """Gives a future its value, or its error, unless it is done."""
     if future.done():
         return
@@ -348,7 +349,7 @@ async def _value(call: Callable[..., Any], *words: Any) -> Any:
     return await value if inspect.isawaitable(value) else value
 
 
-def _forget(task: "asyncio.Task[Any]") -> None:
+def _forget(task: asyncio.Task[Any]) -> None:
     """Looks at what became of a task that nobody waits for."""
     if not task.cancelled() and task.exception() is not None:
         LOG.info("a device that was late ended with %r", task.exception())

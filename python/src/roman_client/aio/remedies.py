@@ -2,7 +2,7 @@
 
 from __future__ import annotations
 
-from typing import AsyncIterator, Iterable
+from collections.abc import AsyncIterator, Iterable
 
 from ..documents import Document
 from ..protocol import Program

@@ -4,7 +4,7 @@ from __future__ import annotations
 
 import json
 from dataclasses import dataclass
-from typing import Any, Optional, Protocol
+from typing import Any, Protocol
 
 from roman_client import Call, DeviceFailed
 
@@ -21,8 +21,8 @@ class Answer:
     where it was asked about a call, and knows whether that was done."""
 
     state: str
-    environment: Optional[str] = None
-    done: Optional[bool] = None
+    environment: str | None = None
+    done: bool | None = None
 
 
 class Listener(Protocol):
@@ -48,7 +48,7 @@ class Reach:
 
     reached = ""
     by_broker = False
-    timeout: Optional[float] = None
+    timeout: float | None = None
     repeatable = False
     late_is_doubt = False
 
@@ -56,7 +56,7 @@ class Reach:
         self.service = service
         self.listener = listener
 
-    def hindrance(self) -> Optional[str]:
+    def hindrance(self) -> str | None:
         """Why what it is reached by can't be asked, as far as that is known without asking it."""
         return None
 
@@ -71,7 +71,7 @@ class Reach:
         for want of files. It may be cancelled at any time; then what is answered later is taken for nothing."""
         raise NotImplementedError
 
-    async def tell(self, number: Optional[int], call: Optional[Call] = None) -> Optional[Answer]:
+    async def tell(self, number: int | None, call: Call | None = None) -> Answer | None:
         """The present state of the device, and whether that call was done, which had that number; None if it can't
         tell."""
         return None

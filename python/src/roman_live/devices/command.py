@@ -8,7 +8,8 @@ import os
 import re
 import shutil
 import signal
-from typing import Any, Dict, Iterator, Optional, Set, Tuple
+from collections.abc import Iterator
+from typing import Any
 
 from roman_client import Call, DeviceFailed, DeviceLost
 
@@ -32,15 +33,15 @@ class Command(Reach):
     reached = "command"
 
     def __init__(
-        self, service: str, listener: Listener, entry: CommandReach, processes: Processes, before: Optional[int]
+        self, service: str, listener: Listener, entry: CommandReach, processes: Processes, before: int | None
     ) -> None:
         super().__init__(service, listener)
         self._entry = entry
         self._processes = processes
         self._before = before
-        self._left: Optional[asyncio.SubprocessTransport] = None
+        self._left: asyncio.SubprocessTransport | None = None
 
-    def hindrance(self) -> Optional[str]:
+    def hindrance(self) -> str | None:
         return _hindrance(self._entry)
 
     async def ask(self, number: int, call: Call) -> Answer:
@@ -48,7 +49,7 @@ class Command(Reach):
         with self._processes.at_work(number) as file:
             return await self._run(call.action, number, (file,))
 
-    async def tell(self, number: Optional[int], call: Optional[Call] = None) -> Optional[Answer]:
+    async def tell(self, number: int | None, call: Call | None = None) -> Answer | None:
         self._check_free()
         return await self._run(STATE_WORD, number, ())
 
@@ -60,7 +61,7 @@ class Command(Reach):
             _check_ended(self._processes, self._before)
             self._before = None
 
-    async def _run(self, word: str, number: Optional[int], holds: Tuple[int, ...]) -> Answer:
+    async def _run(self, word: str, number: int | None, holds: tuple[int, ...]) -> Answer:
         """Runs the command once. What is still running when this is cancelled is ended."""
         loop = asyncio.get_running_loop()
         with _naming(self._entry):
@@ -112,7 +113,7 @@ class Written(asyncio.SubprocessProtocol):
         if not self.ended.done():
             self.ended.set_result(None)
 
-    def connection_lost(self, error: Optional[Exception]) -> None:
+    def connection_lost(self, error: Exception | None) -> None:
         self.closed.set_result(None)
 
 
@@ -129,21 +130,21 @@ class KeptCommand(Reach):
     reached = "command"
 
     def __init__(
-        self, service: str, listener: Listener, entry: CommandReach, processes: Processes, before: Optional[int]
+        self, service: str, listener: Listener, entry: CommandReach, processes: Processes, before: int | None
     ) -> None:
         super().__init__(service, listener)
         self._entry = entry
         self._processes = processes
         self._before = before
         self._file = -1
-        self._process: Optional[asyncio.subprocess.Process] = None
-        self._left: Optional[asyncio.subprocess.Process] = None
-        self._listening: Set[asyncio.Task[None]] = set()
-        self._waiting: Optional[Tuple[int, asyncio.Future[Answer]]] = None
+        self._process: asyncio.subprocess.Process | None = None
+        self._left: asyncio.subprocess.Process | None = None
+        self._listening: set[asyncio.Task[None]] = set()
+        self._waiting: tuple[int, asyncio.Future[Answer]] | None = None
         self._last = 0
         self._turn = asyncio.Lock()
 
-    def hindrance(self) -> Optional[str]:
+    def hindrance(self) -> str | None:
         return _hindrance(self._entry)
 
     def _close_file(self) -> None:
@@ -169,7 +170,7 @@ class KeptCommand(Reach):
             unlock(self._file, number)
             return answer
 
-    async def tell(self, number: Optional[int], call: Optional[Call] = None) -> Optional[Answer]:
+    async def tell(self, number: int | None, call: Call | None = None) -> Answer | None:
         async with self._turn:
             self._last -= 1  # Numbers below 0 are those of no call.
             return await self._exchange(await self._running(), self._last, STATE_WORD)
@@ -254,7 +255,7 @@ class KeptCommand(Reach):
             answer.set_exception(error)
         self.listener.answered(self.service)
 
-    def _awaited(self, number: Optional[int]) -> Optional[asyncio.Future[Answer]]:
+    def _awaited(self, number: int | None) -> asyncio.Future[Answer] | None:
         """The answer that is waited for, unless it is that to another number."""
         if self._waiting is None or self._waiting[1].done():
             return None
@@ -286,7 +287,7 @@ class KeptCommand(Reach):
             self._left = process
 
 
-def _around(entry: CommandReach, number: Optional[int], holds: Tuple[int, ...]) -> Dict[str, Any]:
+def _around(entry: CommandReach, number: int | None, holds: tuple[int, ...]) -> dict[str, Any]:
     """What a command runs in: a group of its own, beside the home file, with these files open. The number of a
     call is in its environment."""
     known = {} if number is None else {"ROMAN_CALL": str(number)}
@@ -294,7 +295,7 @@ def _around(entry: CommandReach, number: Optional[int], holds: Tuple[int, ...]) 
     return {"cwd": entry.folder, "env": env, "start_new_session": True, "pass_fds": holds}
 
 
-def _hindrance(entry: CommandReach) -> Optional[str]:
+def _hindrance(entry: CommandReach) -> str | None:
     """Why a command can't be run, as far as that is known without running it."""
     word = entry.command[0]
     path = str(entry.folder / word) if "/" in word else word
@@ -315,7 +316,7 @@ def _naming(entry: CommandReach) -> Iterator[None]:
         raise DeviceFailed(f"{entry.command[0]} can't be started: {error.strerror}") from None
 
 
-async def _start(entry: CommandReach, holds: Tuple[int, ...]) -> asyncio.subprocess.Process:
+async def _start(entry: CommandReach, holds: tuple[int, ...]) -> asyncio.subprocess.Process:
     """Starts a command that is kept."""
     with _naming(entry):
         return await asyncio.create_subprocess_exec(

@@ -3,7 +3,7 @@
 from __future__ import annotations
 
 import json
-from typing import Mapping, Optional
+from collections.abc import Mapping
 from urllib.parse import urlsplit
 
 import aiohttp
@@ -21,7 +21,7 @@ class Client:
     another's, and no call is lost on one that the device has left."""
 
     def __init__(self) -> None:
-        self._client: Optional[aiohttp.ClientSession] = None
+        self._client: aiohttp.ClientSession | None = None
 
     async def open(self) -> None:
         """Makes it ready to send."""
@@ -38,7 +38,7 @@ class Client:
             await self._client.close()
 
     async def request(
-        self, method: str, url: str, headers: Mapping[str, str], body: Optional[str], query: Mapping[str, str] = {}
+        self, method: str, url: str, headers: Mapping[str, str], body: str | None, query: Mapping[str, str] = {}
     ) -> bytes:
         """Sends a request, and gives the body of the answer. Raises DeviceFailed for any other status than 2xx."""
         assert self._client is not None
@@ -85,7 +85,7 @@ class Http(Reach):
             raise DeviceFailed(f"answered to {short(value['id'])}, and was asked {number}")
         return answer_of(value)
 
-    async def tell(self, number: Optional[int], call: Optional[Call] = None) -> Optional[Answer]:
+    async def tell(self, number: int | None, call: Call | None = None) -> Answer | None:
         about = {} if number is None else {"id": str(number)}
         return answer_of(json_of(await self._client.request("GET", self._url, {}, None, about)))
 

@@ -6,9 +6,10 @@ The keys are those of Home Assistant's MQTT integration, as far as there is one:
 
 from __future__ import annotations
 
+from collections.abc import Collection, Mapping
 from dataclasses import dataclass, field
 from pathlib import Path
-from typing import Any, Collection, Mapping
+from typing import Any
 from urllib.parse import urljoin
 
 from roman_client import Document

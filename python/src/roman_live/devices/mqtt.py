@@ -4,7 +4,7 @@ from __future__ import annotations
 
 import asyncio
 import time
-from typing import Any, Dict, Optional
+from typing import Any
 
 from roman_client import Call, DeviceFailed, DeviceLost
 
@@ -27,7 +27,7 @@ class Mqtt(Reach):
         super().__init__(service, listener)
         self._entry = entry
         self._broker = broker
-        self._waiting: Dict[int, asyncio.Future[Answer]] = {}
+        self._waiting: dict[int, asyncio.Future[Answer]] = {}
         self._last = 0
 
     async def open(self) -> None:
@@ -36,15 +36,15 @@ class Mqtt(Reach):
     async def ask(self, number: int, call: Call) -> Answer:
         return await self._exchange({"id": number, "action": call.action})
 
-    async def tell(self, number: Optional[int], call: Optional[Call] = None) -> Optional[Answer]:
+    async def tell(self, number: int | None, call: Call | None = None) -> Answer | None:
         # Numbers below 0 are those of no call.
         self._last = min(self._last - 1, -int(time.time() * 1000))
-        asked: Dict[str, Any] = {"id": self._last, "action": None}
+        asked: dict[str, Any] = {"id": self._last, "action": None}
         if number is not None:
             asked["about"] = number
         return await self._exchange(asked)
 
-    async def _exchange(self, asked: Dict[str, Any]) -> Answer:
+    async def _exchange(self, asked: dict[str, Any]) -> Answer:
         """Publishes what is asked, and waits for the answer with its id. It is for now alone: an action that
         is carried out long after its deadline may have been given to another device meanwhile."""
         number = asked["id"]

@@ -7,8 +7,9 @@ import importlib
 import inspect
 import sys
 import threading
+from collections.abc import Awaitable, Callable
 from dataclasses import replace
-from typing import Any, Awaitable, Callable, Optional
+from typing import Any
 
 import roman_client
 from roman_client import Call, aio
@@ -42,7 +43,7 @@ class PythonDevice(Reach):
             value = await self._value(self._device, call.request)
         return _answer(value)
 
-    async def tell(self, number: Optional[int], call: Optional[Call] = None) -> Optional[Answer]:
+    async def tell(self, number: int | None, call: Call | None = None) -> Answer | None:
         if call is not None and isinstance(self._device, (roman_client.Device, aio.Device)):
             told = _told(await self._value(self._device.state, call))
             if told is not None:
@@ -63,7 +64,7 @@ class PythonDevice(Reach):
         loop = asyncio.get_running_loop()
         answer: asyncio.Future[Any] = loop.create_future()
 
-        def ended(value: Any, error: Optional[BaseException]) -> None:
+        def ended(value: Any, error: BaseException | None) -> None:
             self._at_work = False
             settle(answer, value, error)
 

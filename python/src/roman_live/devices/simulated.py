@@ -3,7 +3,7 @@
 from __future__ import annotations
 
 import asyncio
-from typing import Callable, Optional
+from collections.abc import Callable
 
 from roman_client import Call, DeviceFailed
 
@@ -18,7 +18,7 @@ class Simulated(Reach):
     def __init__(self, service: str, listener: Listener, present: Callable[[str], str]) -> None:
         super().__init__(service, listener)
         self._present = present
-        self._outcome: Optional[asyncio.Future[Answer]] = None
+        self._outcome: asyncio.Future[Answer] | None = None
 
     async def ask(self, number: int, call: Call) -> Answer:
         self._outcome = asyncio.get_running_loop().create_future()
@@ -27,7 +27,7 @@ class Simulated(Reach):
         finally:
             self._outcome = None
 
-    async def tell(self, number: Optional[int], call: Optional[Call] = None) -> Optional[Answer]:
+    async def tell(self, number: int | None, call: Call | None = None) -> Answer | None:
         return Answer(self._present(self.service))
 
     @property
@@ -35,7 +35,7 @@ class Simulated(Reach):
         """Whether an outcome is waited for."""
         return self._outcome is not None and not self._outcome.done()
 
-    def answer(self, answer: Optional[Answer]) -> None:
+    def answer(self, answer: Answer | None) -> None:
         """Says what came of the call that is under way; with None, that it failed."""
         assert self._outcome is not None
         if answer is None:
