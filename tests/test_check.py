@@ -153,4 +153,4 @@ def test_its_crates_are_there() -> None:
     assert len(rows) > 20
     assert len(rows) == len({*rows})
     for name in rows:
-        assert re.search(rf"(?m)^{name}:", listed)
+        assert re.search(rf"(?m)^{name}(?: staticlib)?:", listed)

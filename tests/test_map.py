@@ -13,7 +13,7 @@ def listed() -> dict[str, set[str]]:
     """The crates of crates.txt, each with those that it names."""
     lines = (TOP / "crates.txt").read_text(encoding="utf-8").splitlines()
     rows = [line.partition(":") for line in lines if line[:1] not in ("", "#")]
-    named = {name: {*words.split()} for name, _, words in rows}
+    named = {name.split()[0]: {*words.split()} for name, _, words in rows}
     return {name: others & {*named} for name, others in named.items()}
 
 

@@ -19,7 +19,7 @@ LIBRARIES = {"serde_json"}
 
 def listed() -> set[str]:
     lines = (TOP / "crates.txt").read_text(encoding="utf-8").splitlines()
-    return {line.partition(":")[0] for line in lines if line[:1] not in ("", "#")}
+    return {line.partition(":")[0].split()[0] for line in lines if line[:1] not in ("", "#")}
 
 
 def words_of(crate: Path) -> set[str]:

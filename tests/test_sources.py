@@ -164,8 +164,8 @@ class Sources(unittest.TestCase):
             everywhere.update(words(page))
         uncited: list[str] = []
         for file in sources("proofs", ".antt"):
-            # Answers and invariants are named by the prover, and examples are there for themselves.
-            if file.name in ("Answers.antt", "Invariants.antt") or file.name.endswith("Examples.antt"):
+            # Answers, invariants and whole proofs are named by the prover, and examples are there for themselves.
+            if file.name in ("Answers.antt", "Invariants.antt", "Proof.antt", "Send.antt") or file.name.endswith("Examples.antt"):
                 continue
             for declaration in declarations(pages[file]):
                 found = next((m for m in map(LEMMA.match, declaration.splitlines()) if m), None)

@@ -1,0 +1,7 @@
+use Rattle.roman_c.proofs.Common.{map, seat_name}
+use Rattle.roman_c.proofs.PlaceLemmas.{IsPast}
+use Rattle.roman_c.proofs.names.find_service.Given as goal
+
+-- the services so far have other names
+abbrev pub invariant-loop-k : goal.invariant-loop-k
+invariant-loop-k l = IsPast (map seat_name l.joint.seats) l.name l.k

@@ -1,0 +1,136 @@
+//! What a handle holds.
+ghost use Rattle.std.specs.Prelude.{◌≡◌, ◌≢◌, ◌⊎◌, ◌∷◌, ◌<◌, [], None, Some, length, drop, option_copied};
+ghost use Rattle.roman_io.specs.Faults.{Rose};
+ghost use Rattle.roman_c.specs.Answers.{AnswersBy, AnswersLine};
+ghost use Rattle.roman_c.specs.Asks.{ask_line, join_line};
+ghost use Rattle.roman_c.specs.Contents.{missing_in, reply_in, session_in, texts_in};
+ghost use Rattle.roman_c.specs.Copies.{IsBeginning};
+ghost use Rattle.roman_c.specs.Openings.{IsOpeningStatus, OpensStart, TellsLimit, TellsRefusal};
+
+use crate::asks::Ask;
+use crate::opening::{Begun, begin};
+use crate::shelf::{TextShelf, copy_prefix};
+use crate::talk::{Reply, Talk};
+use roman_session::Session;
+use std::alloc::Global;
+use std::sync::ledger::{Blank, Ledger};
+
+/// What a handle holds: a shelf or a session.
+#[derive(Drop)]
+pub enum Content {
+    /// The texts of documents.
+    Shelf(TextShelf),
+    /// A session with its last reply.
+    Talk(Talk),
+}
+
+impl Content {
+    pub(crate) fn empty_shelf(alloc: Global) -> Content
+        ensures texts { texts_in (Some result) ≡ [] }
+        ensures session { session_in (Some result) ≡ None }
+    {
+        Content::Shelf(TextShelf::new(alloc))
+    }
+
+    /// Adds a text to a shelf. Returns the status of `roman_add`.
+    pub(crate) fn add(&mut self, alloc: Global, name: &str, text: &[u8]) -> u32
+        ensures ok { result ≡ 0 → texts_in (Some self.new) ≡ (name.now, text.now) ∷ texts_in (Some self.old) }
+        ensures err { result ≢ 0 → texts_in (Some self.new) ≡ texts_in (Some self.old) }
+        ensures session { session_in (Some self.new) ≡ session_in (Some self.old) }
+    {
+        match self {
+            Content::Shelf(shelf) => match shelf.add(alloc, name, text) {
+                Ok(()) => 0,
+                Err(_) => 9,
+            },
+            Content::Talk(_) => 2,
+        }
+    }
+
+    /// Begins a session of a document on a shelf.
+    pub(crate) fn begin<L: Ledger>(&mut self, alloc: Global, name: &str, blank: Blank) -> Begun
+        requires name { blank.name ≡ L.name }
+        requires parts { blank.parts ≡ L.parts }
+        requires some { 0 < L.parts }
+        ensures among { IsOpeningStatus result.status }
+        ensures ok { result.status ≡ 0 → OpensStart (texts_in (Some self.old)) name.now result.talk.session }
+        ensures none { result.status ≢ 0 → result.talk.session ≡ None }
+        ensures refused { result.status ≡ 3 → TellsRefusal (texts_in (Some self.old)) name.now result.talk.reply.bytes.items }
+        ensures limit { result.status ≡ 4 → TellsLimit (texts_in (Some self.old)) name.now result.talk.reply.bytes.items }
+        ensures missing { result.status ≡ 5 → (texts_in (Some self.old) ≡ []) ⊎ Rose (missing_in (Some self.old)) (missing_in (Some self.new)) }
+        ensures texts { texts_in (Some self.new) ≡ texts_in (Some self.old) }
+    {
+        match self {
+            Content::Shelf(shelf) => begin::<L>(alloc, shelf, name, blank),
+            Content::Talk(_) => Begun {
+                talk: Talk {
+                    session: None,
+                    reply: Reply::new(alloc),
+                },
+                status: 5,
+            },
+        }
+    }
+
+    /// Answers a line. Returns the status of `roman_answer`.
+    pub(crate) fn answer(&mut self, line: &[u8]) -> u32
+        ensures { AnswersLine (Some self.old) line.now (Some self.new) result }
+    {
+        match self {
+            Content::Talk(talk) => talk.answer(line),
+            Content::Shelf(_) => 2,
+        }
+    }
+
+    /// Answers the line of an event by numbers.
+    pub(crate) fn ask(&mut self, ask: Ask) -> u32
+        ensures { AnswersBy (λ s. ask_line s ask) (Some self.old) (Some self.new) result }
+    {
+        match self {
+            Content::Talk(talk) => talk.ask(ask),
+            Content::Shelf(_) => 2,
+        }
+    }
+
+    /// Answers the line by which a service joins.
+    pub(crate) fn join(&mut self, name: &[u8], behaviour: u32, state: u32, loose: bool) -> u32
+        ensures { AnswersBy (λ s. join_line s name.now behaviour state loose) (Some self.old) (Some self.new) result }
+    {
+        match self {
+            Content::Talk(talk) => talk.join(name, behaviour, state, loose),
+            Content::Shelf(_) => 2,
+        }
+    }
+
+    /// Returns the open session, if there is one.
+    pub(crate) fn session(&self) -> Option<&Session>
+        ensures { option_copied result ≡ session_in (Some self.now) }
+    {
+        match self {
+            Content::Talk(talk) => talk.session.as_ref(),
+            Content::Shelf(_) => None,
+        }
+    }
+
+    /// Copies the last reply from byte `from` on, until it or `into` ends. Returns the length of the whole
+    /// reply.
+    pub(crate) fn copy_reply(&self, from: usize, into: &mut [u8]) -> usize
+        ensures len { result ≡ length (reply_in (Some self.now)) }
+        ensures copies { IsBeginning (drop from (reply_in (Some self.now))) into.new }
+    {
+        let reply = self.reply();
+        if from < reply.len() {
+            copy_prefix(&reply[from..], into);
+        }
+        reply.len()
+    }
+
+    fn reply(&self) -> &[u8]
+        ensures { result.now ≡ reply_in (Some self.now) }
+    {
+        match self {
+            Content::Talk(talk) => &talk.reply.bytes,
+            Content::Shelf(_) => &[],
+        }
+    }
+}

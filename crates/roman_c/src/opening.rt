@@ -1,0 +1,70 @@
+//! Begins a session of a document on a shelf.
+ghost use Rattle.std.specs.Prelude.{◌≡◌, ◌≢◌, ◌<◌, None, Some, IsSome};
+ghost use Rattle.roman_io.specs.Faults.{Rose};
+ghost use Rattle.roman_io.specs.Memory.{texts_of};
+ghost use Rattle.roman_c.specs.Openings.{IsOpeningStatus, OpensStart, TellsLimit, TellsRefusal, opening_number};
+
+use crate::shelf::TextShelf;
+use crate::talk::{Reply, Talk};
+use roman_io::Steps;
+use roman_opening::{Status, open_session};
+use std::alloc::Global;
+use std::sync::ledger::{Blank, Ledger};
+
+/// How opening a document ended: the talk that a handle is to hold, and the status.
+#[derive(Drop)]
+pub(crate) struct Begun {
+    pub(crate) talk: Talk,
+    pub(crate) status: u32,
+}
+
+/// Opens a document, and begins a session of it. The reply is the line that says why there is none.
+pub(crate) fn begin<L: Ledger>(
+    alloc: Global,
+    shelf: &mut TextShelf,
+    name: &str,
+    blank: Blank,
+) -> Begun
+    requires name { blank.name ≡ L.name }
+    requires parts { blank.parts ≡ L.parts }
+    requires some { 0 < L.parts }
+    ensures among { IsOpeningStatus result.status }
+    ensures ok { result.status ≡ 0 → OpensStart (texts_of shelf.old.files.items) name.now result.talk.session }
+    ensures none { result.status ≢ 0 → result.talk.session ≡ None }
+    ensures refused { result.status ≡ 3 → TellsRefusal (texts_of shelf.old.files.items) name.now result.talk.reply.bytes.items }
+    ensures limit { result.status ≡ 4 → TellsLimit (texts_of shelf.old.files.items) name.now result.talk.reply.bytes.items }
+    ensures missing { result.status ≡ 5 → Rose shelf.old.missing shelf.new.missing }
+    ensures texts { texts_of shelf.new.files.items ≡ texts_of shelf.old.files.items }
+{
+    let mut reply = Reply::new(alloc);
+    let mut steps = Steps::<L>::new(blank);
+    match open_session(alloc, name, shelf, &mut reply, &mut steps) {
+        Ok(session) => Begun {
+            talk: Talk {
+                session: Some(session),
+                reply,
+            },
+            status: 0,
+        },
+        Err(status) => Begun {
+            talk: Talk {
+                session: None,
+                reply,
+            },
+            status: opening_status(status),
+        },
+    }
+}
+
+/// Returns the number of a status without a session. A line that couldn't be written counts as out of
+/// memory.
+fn opening_status(status: Status) -> u32
+    ensures { result ≡ opening_number status }
+{
+    match status {
+        Status::Refused => 3,
+        Status::Limit => 4,
+        Status::ShelfFault => 5,
+        _ => 9,
+    }
+}

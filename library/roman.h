@@ -1,0 +1,177 @@
+/* libroman: sessions of roman within a process.
+
+   A program puts the texts of documents on a shelf, opens a session of one of them, and asks it line by line.
+   Each line and each reply is that of `roman run`, byte for byte; roman(1) lists them.
+
+       roman_shelf shelf = ROMAN_NONE;
+       roman_session session = ROMAN_NONE;
+       roman_add(&shelf, name, name_len, text, text_len);
+       if (roman_open(&session, &shelf, name, name_len) == ROMAN_OK)
+           roman_answer(&session, line, line_len);
+       length = roman_reply(&session, 0, buffer, sizeof buffer);
+       roman_close(&session);
+       roman_clear(&shelf);
+
+   Ownership. The library copies what it is passed and keeps no pointer to it. A handle owns its memory until
+   roman_close or roman_clear returns it. Call them also after a call that failed. A session needs its shelf
+   only while it is opened.
+
+   Rules for callers. The library is proved under these rules and checks none of them.
+   - A handle begins as ROMAN_NONE, and only these functions write to it. Move it if you like; after a move only
+     the new place is a handle. Never copy one.
+   - A pointer is never null, even with a length of 0. It points to at least that many bytes. During a call
+     nothing else writes to them, and `into` overlaps none of the others. The handles of one call are two.
+   - One call at a time uses a handle. Any thread may make it, and calls on other handles may run beside it.
+   - malloc, realloc and free are those of C. They may fail: then the call returns ROMAN_MEMORY.
+
+   A handle that is empty, closed or of the other kind is never an error of memory: each call refuses it by a
+   status. Bytes may have any value, and lines any length. */
+#ifndef ROMAN_H
+#define ROMAN_H
+
+#include <stdbool.h>
+#include <stddef.h>
+#include <stdint.h>
+
+#ifdef __cplusplus
+extern "C" {
+#endif
+
+/* Texts by their names. */
+typedef struct { void *at; bool full; } roman_shelf;
+
+/* A session with its last reply. */
+typedef struct { void *at; bool full; } roman_session;
+
+/* The empty handle. */
+#define ROMAN_NONE { 0, 0 }
+
+/* What the calls return. From 101 on it is a refusal of a session: its reply is the line that says so, and the
+   session is as it was. */
+enum roman_status {
+    ROMAN_OK = 0,
+    ROMAN_QUIT = 1,             /* the line was `quit`, and the reply is `bye` */
+    ROMAN_CLOSED = 2,           /* no session is open, or the handle isn't a shelf */
+    ROMAN_REFUSED = 3,          /* the document is refused */
+    ROMAN_LIMIT = 4,            /* the document's system exceeds its limit */
+    ROMAN_MISSING = 5,          /* the shelf lacks a text that is named */
+    ROMAN_MEMORY = 9,           /* out of memory */
+    ROMAN_NOT_UTF8 = 10,        /* a name isn't UTF-8 */
+    ROMAN_ERROR_LINE = 101,     /* error line */
+    ROMAN_ERROR_NAME = 102,     /* error name */
+    ROMAN_ERROR_BUSY = 103,     /* error busy */
+    ROMAN_ERROR_IDLE = 104,     /* error idle */
+    ROMAN_NO_COMPOSITION = 105, /* no composition */
+    ROMAN_NOT_ALLOWED = 106,    /* not allowed */
+    ROMAN_NOT_OFFERED = 107,    /* not offered */
+    ROMAN_IMPOSSIBLE = 108,     /* impossible */
+    ROMAN_ERROR_FROZEN = 109,   /* error frozen */
+    ROMAN_ERROR_READY = 110,    /* error ready */
+    ROMAN_ERROR_TAKEN = 111,    /* error taken */
+    ROMAN_ERROR_FULL = 112,     /* error full */
+    ROMAN_ERROR_LIMIT = 113,    /* error limit */
+    ROMAN_ERROR_RELATED = 114   /* error related */
+};
+
+/* Adds a text to a shelf. Of two texts with one name the later one counts. Returns ROMAN_OK, or ROMAN_CLOSED if
+   the handle is a session, ROMAN_MEMORY or ROMAN_NOT_UTF8; the shelf then has the texts that it had. */
+uint32_t roman_add(roman_shelf *shelf, const uint8_t *name, size_t name_len, const uint8_t *text, size_t text_len);
+
+/* Opens a session of the system document of that name on the shelf, and closes the session that was open. The
+   shelf also has the part files that the document names. Returns ROMAN_OK, or else, with no session open:
+   ROMAN_REFUSED or ROMAN_LIMIT, and the reply is the line that says why; ROMAN_MISSING; ROMAN_MEMORY;
+   ROMAN_NOT_UTF8. */
+uint32_t roman_open(roman_session *session, roman_shelf *shelf, const uint8_t *name, size_t name_len);
+
+/* Answers a line, passed without its newline, and keeps the reply in place of the last one. Returns ROMAN_OK if
+   the event is accepted, or the line is blank or a comment; ROMAN_QUIT; ROMAN_CLOSED; or the number of the
+   refusal. ROMAN_MEMORY: the event took effect, but there was no memory for the whole reply. */
+uint32_t roman_answer(roman_session *session, const uint8_t *line, size_t line_len);
+
+/* Copies the last reply, from byte `from` on, to `into`, as many bytes as it has room for. Returns the length of
+   the whole reply, which is 0 if there is none. It ends with a newline, and not with a zero. */
+size_t roman_reply(roman_session *session, size_t from, uint8_t *into, size_t room);
+
+/* ---- Events by numbers
+
+   Actions, states and behaviours are numbered from 0 in the order of the document, and services by their places.
+   Each call answers the line that names what has these numbers, as roman_answer does, with the same statuses and
+   the same reply. A number that nothing has counts as an unknown name: ROMAN_ERROR_NAME. */
+
+/* do ACTION. If it is accepted, roman_offers has the services that are offered. */
+uint32_t roman_request(roman_session *session, uint32_t action);
+
+/* use SERVICE */
+uint32_t roman_delegate(roman_session *session, uint32_t service);
+
+/* saw STATE ENV: a state of the service to which the request is delegated, and one of the environment */
+uint32_t roman_observe(roman_session *session, uint32_t state, uint32_t env);
+
+/* freeze SERVICE */
+uint32_t roman_freeze(roman_session *session, uint32_t service);
+
+/* thaw SERVICE */
+uint32_t roman_thaw(roman_session *session, uint32_t service);
+
+/* die SERVICE. Each service after it moves down by one place. */
+uint32_t roman_die(roman_session *session, uint32_t service);
+
+/* join NAME BEHAVIOUR STATE, and with `loose` join NAME BEHAVIOUR STATE loose. The service gets the last place. */
+uint32_t roman_join(roman_session *session, const uint8_t *name, size_t name_len, uint32_t behaviour, uint32_t state,
+                    bool loose);
+
+/* jump SERVICE STATE */
+uint32_t roman_jump(roman_session *session, uint32_t service, uint32_t state);
+
+/* jumpenv ENV */
+uint32_t roman_jump_env(roman_session *session, uint32_t env);
+
+/* ---- Numbers and names */
+
+/* No number. */
+#define ROMAN_NO_NUMBER UINT32_MAX
+
+/* What a number is of. The states of a service or of a behaviour are those of number `of`; for all other kinds
+   `of` counts for nothing. */
+enum roman_kind {
+    ROMAN_ACTION = 0,
+    ROMAN_ENV_STATE = 1,
+    ROMAN_TARGET_STATE = 2,
+    ROMAN_SERVICE = 3,
+    ROMAN_SERVICE_STATE = 4,
+    ROMAN_BEHAVIOUR = 5,
+    ROMAN_BEHAVIOUR_STATE = 6
+};
+
+/* Returns the number of the name, or ROMAN_NO_NUMBER. Of two behaviours with one name it is the first. */
+uint32_t roman_find(roman_session *session, uint32_t kind, uint32_t of, const uint8_t *name, size_t name_len);
+
+/* Copies the name of a number to `into`, as many bytes as it has room for, and returns its length: 1 to 32, or 0 if
+   nothing has the number. */
+size_t roman_name(roman_session *session, uint32_t kind, uint32_t of, uint32_t number, uint8_t *into, size_t room);
+
+/* Returns the services that are offered for the open request: bit k is 1 exactly if the service at place k is
+   offered. Returns 0 if no request is open, or if it is delegated. */
+uint32_t roman_offers(roman_session *session);
+
+/* Returns the present state of that kind: ROMAN_ENV_STATE, ROMAN_TARGET_STATE, or ROMAN_SERVICE_STATE of the service
+   at place `of`. Returns ROMAN_NO_NUMBER for anything else. */
+uint32_t roman_state(roman_session *session, uint32_t kind, uint32_t of);
+
+/* Returns 0 if no request is open, 1 if services are offered for it, 2 if it is delegated, and ROMAN_NO_NUMBER if no
+   session is open. */
+uint32_t roman_phase(roman_session *session);
+
+/* ---- The end */
+
+/* Closes a session and returns its memory. The handle is then empty, and can be used again. */
+void roman_close(roman_session *session);
+
+/* Returns the memory of a shelf. The handle is then empty, and can be used again. */
+void roman_clear(roman_shelf *shelf);
+
+#ifdef __cplusplus
+}
+#endif
+
+#endif
