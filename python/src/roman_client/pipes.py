@@ -40,6 +40,15 @@ class Pipes:
             os.set_blocking(stream.fileno(), False)
             self._watch.register(stream, selectors.EVENT_READ)
 
+    @property
+    def pid(self) -> int:
+        """The number of the program's process."""
+        return self.process.pid
+
+    def poll(self) -> int | None:
+        """The program's status, or None while it is running."""
+        return self.process.poll()
+
     def exchange(self, exchange: Exchange) -> list[str]:
         """Sends a line, and reads its whole reply. The program is ended where that fails, since a reply
         that was half read can't be told from the next one."""

@@ -9,6 +9,7 @@ from typing import Any
 from . import protocol
 from .documents import PathLike
 from .errors import NotBegun
+from .library import UNLIMITED, InProcess, Library
 from .pipes import Pipes
 from .protocol import LONGEST, Conversation, Effect, Event, Exchange, Program, Start, Steps, Stop, Value
 from .replies import Explanation, Move, Offer, Repair, Report
@@ -40,6 +41,7 @@ class Session:
         folder: PathLike | None = None,
         timeout: float | None = None,
         longest: int = LONGEST,
+        library: Library = False,
     ) -> None:
         """Starts the program on a document, and waits for its first report.
 
@@ -47,9 +49,14 @@ class Session:
         the names of part files count from; `timeout` is how many seconds a reply may take, for ever
         where it is None; `longest` is how many bytes of lines a program gets. Raises `ProgramEnded` where
         the document is refused or over its limit.
+
+        If `library` is true, the session runs within this process, by libroman, and not in a program of its
+        own: a request takes microseconds, `program`, `timeout` and `longest` count for nothing, and a crash
+        of this process takes the session along. A path names the shared library. Raises OSError if it isn't
+        there.
         """
-        self.core = Conversation(system, program, folder, longest)
-        self._begin(timeout, self.core.start())
+        self.core = Conversation(system, program, folder, UNLIMITED if library else longest)
+        self._begin(timeout, library, self.core.start())
 
     @classmethod
     def resume(
@@ -60,17 +67,19 @@ class Session:
         folder: PathLike | None = None,
         timeout: float | None = None,
         longest: int = LONGEST,
+        library: Library = False,
     ) -> Session:
         """A session that goes on from a snapshot, with the request that was open there."""
         session = cls.__new__(cls)
-        session.core = Conversation("system.json", program, folder, longest)
-        session._begin(timeout, session.core.resume(snapshot))
+        session.core = Conversation("system.json", program, folder, UNLIMITED if library else longest)
+        session._begin(timeout, library, session.core.resume(snapshot))
         return session
 
-    def _begin(self, timeout: float | None, opening: Steps[Report]) -> None:
+    def _begin(self, timeout: float | None, library: Library, opening: Steps[Report]) -> None:
         self._timeout = timeout
+        self._library = library
         self._turn = threading.RLock()
-        self._pipes: Pipes | None = None
+        self._pipes: Pipes | InProcess | None = None
         try:
             self.opening: Report = self.run(opening)
             """The first report of the session."""
@@ -157,12 +166,12 @@ class Session:
     @property
     def status(self) -> int | None:
         """The program's status, or None where it is still running."""
-        return self._running().process.poll()
+        return self._running().poll()
 
     @property
     def pid(self) -> int:
         """The number of the program's process."""
-        return self._running().process.pid
+        return self._running().pid
 
     @property
     def room(self) -> int:
@@ -196,7 +205,7 @@ class Session:
         if isinstance(effect, Exchange):
             return self._running().exchange(effect)
         if isinstance(effect, Start):
-            before, self._pipes = self._pipes, Pipes(effect, self._timeout)
+            before, self._pipes = self._pipes, self._started(effect)
             if before is not None:
                 before.close()
             return None
@@ -204,7 +213,10 @@ class Session:
             return self._running().stop()
         raise TypeError(f"{effect!r} is no step of a session")
 
-    def _running(self) -> Pipes:
+    def _started(self, start: Start) -> Pipes | InProcess:
+        return InProcess(start, self._library) if self._library else Pipes(start, self._timeout)
+
+    def _running(self) -> Pipes | InProcess:
         if self._pipes is None:
             raise NotBegun("the session wasn't begun")
         return self._pipes

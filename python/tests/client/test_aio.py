@@ -15,6 +15,7 @@ from typing import Any
 
 import roman_client as roman
 from roman_client import NOT_DONE, Verdict, aio, protocol
+from roman_client.aio import streams
 
 from . import PROGRAM, copy_store, sample
 from .test_pipes import BEGIN, LONG, OPENING
@@ -47,7 +48,7 @@ async def played(code: str, timeout: float | None = None) -> AsyncIterator[aio.S
     """A session with a program in Python that reads the first line and writes a first report. It has all the
     time that it needs for that."""
     async with aio.Session("system", program=[sys.executable, "-c", BEGIN + code]) as session:
-        assert session._streams is not None
+        assert isinstance(session._streams, streams.Streams)
         session._streams._timeout = timeout
         yield session
 

@@ -8,7 +8,7 @@ import unittest
 from unittest import mock
 
 import roman_client as roman
-from roman_client import Session
+from roman_client import Session, pipes
 
 OPENING = (
     r"pairs 4\nrelated 2\nenvironment e\ntarget off final\n"
@@ -33,7 +33,7 @@ say("{OPENING}")
 def session(code: str, timeout: float | None = None) -> Session:
     """A session with a program that begins so. It has all the time that it needs for its first report."""
     talk = Session("system", program=[sys.executable, "-c", BEGIN + code])
-    assert talk._pipes is not None
+    assert isinstance(talk._pipes, pipes.Pipes)
     talk._pipes._timeout = timeout
     return talk
 
@@ -127,7 +127,7 @@ os._exit(5)
 
     def test_a_program_that_hangs_at_its_end(self) -> None:
         with session(f"time.sleep({LONG})", timeout=0.5) as talk:
-            assert talk._pipes is not None
+            assert isinstance(talk._pipes, pipes.Pipes)
             process = talk._pipes.process
             with mock.patch.object(process, "wait", wraps=process.wait) as wait:
                 self.assertEqual(talk.close(), -9)

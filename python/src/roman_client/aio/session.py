@@ -10,9 +10,11 @@ from typing import Any
 from .. import protocol
 from ..documents import PathLike
 from ..errors import NotBegun
+from ..library import UNLIMITED, Library
 from ..protocol import LONGEST, Conversation, Effect, Event, Exchange, Program, Start, Steps, Stop, Value
 from ..replies import Explanation, Move, Offer, Repair, Report
 from ..snapshots import Snapshot
+from .library import Within
 from .streams import Streams, run
 
 
@@ -31,12 +33,14 @@ class Session:
         folder: PathLike | None = None,
         timeout: float | None = None,
         longest: int = LONGEST,
+        library: Library = False,
     ) -> None:
         """For a document. The words are those of `roman_client.Session`; the program starts by `begin`."""
-        self.core = Conversation(system, program, folder, longest)
+        self.core = Conversation(system, program, folder, UNLIMITED if library else longest)
         self._timeout = timeout
+        self._library = library
         self._turn: asyncio.Lock | None = None
-        self._streams: Streams | None = None
+        self._streams: Streams | Within | None = None
         self._first: Callable[[], Steps[Report]] = self.core.start
         self.opening: Report
         """The first report of the session."""
@@ -50,10 +54,11 @@ class Session:
         folder: PathLike | None = None,
         timeout: float | None = None,
         longest: int = LONGEST,
+        library: Library = False,
     ) -> Session:
         """A session that goes on from a snapshot, with the request that was open there. It starts by `begin`,
         as another one."""
-        session = cls("system.json", program=program, folder=folder, timeout=timeout, longest=longest)
+        session = cls("system.json", program=program, folder=folder, timeout=timeout, longest=longest, library=library)
         session._first = lambda: session.core.resume(snapshot)
         return session
 
@@ -147,12 +152,12 @@ class Session:
     @property
     def status(self) -> int | None:
         """The program's status, or None where it is still running."""
-        return self._running().process.returncode
+        return self._running().poll()
 
     @property
     def pid(self) -> int:
         """The number of the program's process."""
-        return self._running().process.pid
+        return self._running().pid
 
     @property
     def room(self) -> int:
@@ -189,7 +194,7 @@ class Session:
             return await self._running().exchange(effect)
         if isinstance(effect, Start):
             before = self._streams
-            self._streams = await Streams.start(effect, self._timeout)
+            self._streams = await self._started(effect)
             if before is not None:
                 await before.close()
             return None
@@ -197,7 +202,10 @@ class Session:
             return await self._running().stop()
         raise TypeError(f"{effect!r} is no step of a session")
 
-    def _running(self) -> Streams:
+    async def _started(self, start: Start) -> Streams | Within:
+        return Within(start, self._library) if self._library else await Streams.start(start, self._timeout)
+
+    def _running(self) -> Streams | Within:
         if self._streams is None:
             raise NotBegun("the session wasn't begun")
         return self._streams

@@ -47,6 +47,15 @@ class Streams:
                 return
             self._errors.append(data)
 
+    @property
+    def pid(self) -> int:
+        """The number of the program's process."""
+        return self.process.pid
+
+    def poll(self) -> int | None:
+        """The program's status, or None while it is running."""
+        return self.process.returncode
+
     async def exchange(self, exchange: Exchange) -> list[str]:
         """Sends a line, and reads its whole reply. The program is ended where that fails, since a reply
         that was half read can't be told from the next one; so it is where the call is cancelled."""

@@ -1,0 +1,144 @@
+"""A session within this process, by libroman, in the place of a running program behind two pipes."""
+
+from __future__ import annotations
+
+import ctypes
+import json
+import os
+from collections.abc import Iterator
+from functools import lru_cache
+from pathlib import Path
+from typing import Any, Union
+
+from .documents import PathLike
+from .errors import ProgramEnded
+from .protocol import Exchange, Start
+
+Library = Union[bool, PathLike]
+"""True for the installed library, or the path of a shared library."""
+
+NAME = "libroman.so.1"
+UNLIMITED = 1 << 62
+"""How many bytes of lines a session takes."""
+
+CLOSED, MISSING, MEMORY, QUIT = 2, 5, 9, 1
+"""Statuses of roman.h that aren't those of the program, or that end a session."""
+
+
+class Handle(ctypes.Structure):
+    """A shelf or a session of the library. It begins empty."""
+
+    _fields_ = [("at", ctypes.c_void_p), ("full", ctypes.c_bool)]
+
+
+@lru_cache(maxsize=None)
+def loaded(path: str) -> ctypes.CDLL:
+    """The library at that path. Raises OSError if it can't be loaded."""
+    library = ctypes.CDLL(path)
+    handle = ctypes.POINTER(Handle)
+    text = [ctypes.c_char_p, ctypes.c_size_t]
+    library.roman_add.argtypes = [handle, *text, *text]
+    library.roman_open.argtypes = [handle, handle, *text]
+    library.roman_answer.argtypes = [handle, *text]
+    library.roman_reply.argtypes = [handle, ctypes.c_size_t, *text]
+    library.roman_reply.restype = ctypes.c_size_t
+    library.roman_close.argtypes = library.roman_clear.argtypes = [handle]
+    library.roman_close.restype = library.roman_clear.restype = None
+    return library
+
+
+def part_names(text: bytes) -> Iterator[str]:
+    """The names of the part files in a document, as far as it is one."""
+    try:
+        document = json.loads(text)
+    except ValueError:
+        return
+    members: list[Any] = [*document.values()] if isinstance(document, dict) else []
+    for member in members:
+        for part in member if isinstance(member, list) else [member]:
+            if isinstance(part, dict) and isinstance(part.get("file"), str):
+                yield part["file"]
+
+
+class InProcess:
+    """A session of the library, with the calls of `Pipes`. A crash of this process takes it along."""
+
+    pid = os.getpid()
+
+    def __init__(self, start: Start, library: Library) -> None:
+        self._ended: ProgramEnded | None = None
+        self._session = Handle()
+        self._library = loaded(NAME if isinstance(library, bool) else os.fspath(library))
+        self._room = ctypes.create_string_buffer(4096)
+        self._open(start.words[-1], Path() if start.folder is None else Path(start.folder))
+
+    def __del__(self) -> None:
+        if self._session.full:
+            self._close(0)
+
+    def exchange(self, exchange: Exchange) -> list[str]:
+        """Answers a line. Raises `ProgramEnded` if the session has ended or memory runs out."""
+        if self._ended is not None:
+            raise self._ended.again()
+        line = exchange.data.rstrip(b"\n")
+        status = self._library.roman_answer(self._session, line, len(line))
+        lines = self._reply()
+        if status == MEMORY:
+            self._close(MEMORY)
+        elif status == QUIT:
+            self._close(0)
+        if status == MEMORY:
+            assert self._ended is not None
+            raise self._ended
+        return lines
+
+    def poll(self) -> int | None:
+        """The status of the program that would have ended as this session did, or None while it goes on."""
+        return None if self._ended is None else self._ended.status
+
+    def close(self) -> int:
+        """Ends the session, and gives the program's status."""
+        return self._close(0)
+
+    def stop(self) -> int:
+        """Ends the session, and gives the program's status."""
+        return self._close(0)
+
+    def _open(self, system: str, folder: Path) -> None:
+        shelf = Handle()
+        errors: list[str] = []
+        try:
+            self._add(shelf, system, folder, errors)
+            name = os.fsencode(system)
+            status = self._library.roman_open(self._session, shelf, name, len(name))
+        finally:
+            self._library.roman_clear(shelf)
+        if status:
+            self._ended = ProgramEnded(status, self._reply(), errors if status == MISSING else ())
+
+    def _add(self, shelf: Handle, system: str, folder: Path, errors: list[str]) -> None:
+        """Puts the document and its part files on the shelf. One that can't be read is left out."""
+        names = [system]
+        for name in names:
+            try:
+                text = (folder / name).read_bytes()
+            except (OSError, ValueError) as error:
+                errors.append(f"roman: {name}: {getattr(error, 'strerror', None) or error}")
+                continue
+            if name == system and len(names) == 1:
+                names.extend(dict.fromkeys(part_names(text)))
+            self._library.roman_add(shelf, os.fsencode(name), len(os.fsencode(name)), text, len(text))
+
+    def _reply(self) -> list[str]:
+        """The lines of the last reply."""
+        length = self._library.roman_reply(self._session, 0, self._room, len(self._room))
+        if length > len(self._room):
+            self._room = ctypes.create_string_buffer(length)
+            self._library.roman_reply(self._session, 0, self._room, length)
+        return ctypes.string_at(self._room, length).decode(errors="replace").split("\n")[:-1]
+
+    def _close(self, status: int) -> int:
+        if self._ended is None:
+            self._ended = ProgramEnded(status, (), ())
+        self._library.roman_close(self._session)
+        return self._ended.status
