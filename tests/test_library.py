@@ -9,7 +9,7 @@ import shutil
 import subprocess
 import threading
 from pathlib import Path
-from typing import Any, Dict, List
+from typing import Any
 
 import pytest
 
@@ -49,7 +49,11 @@ def fixture_built(tmp_path_factory: pytest.TempPathFactory) -> Path:
     prefix = tmp_path_factory.mktemp("prefix")
     files = prefix / "files"
     run(LIBRARY / "make", archive(), files)
-    for folder, names in (("include", ["roman.h", "roman.hpp"]), ("lib", ["libroman*"]), ("lib/pkgconfig", ["roman.pc"])):
+    for folder, names in (
+        ("include", ["roman.h", "roman.hpp"]),
+        ("lib", ["libroman*"]),
+        ("lib/pkgconfig", ["roman.pc"]),
+    ):
         (prefix / folder).mkdir(parents=True)
         for name in names:
             for file in files.glob(name):
@@ -57,18 +61,18 @@ def fixture_built(tmp_path_factory: pytest.TempPathFactory) -> Path:
     return prefix
 
 
-def flags(built: Path) -> List[str]:
+def flags(built: Path) -> list[str]:
     """What pkg-config says."""
     environment = {**os.environ, "PKG_CONFIG_PATH": str(built / "lib" / "pkgconfig")}
     return shlex.split(run("pkg-config", "--cflags", "--libs", "roman", env=environment).stdout.decode())
 
 
-def replies(command: List[Any], sample: str, **options: Any) -> bytes:
+def replies(command: list[Any], sample: str, **options: Any) -> bytes:
     session = (TOP / "samples" / f"{sample}.session").read_bytes()
     return run(*command, f"samples/{sample}.json", PART, input=session, cwd=TOP, **options).stdout
 
 
-def is_as_stored(command: List[Any], **options: Any) -> None:
+def is_as_stored(command: list[Any], **options: Any) -> None:
     """The replies to each sample session are the stored ones of the program, byte for byte."""
     for sample in SAMPLES:
         assert replies(command, sample, **options) == (TOP / "samples" / f"{sample}.replies").read_bytes(), sample
@@ -93,7 +97,7 @@ def test_the_shared_library_has_a_soname_and_no_text_relocations(built: Path) ->
 
 
 @pytest.mark.parametrize("words", [["cc", "-std=c99", "-x", "c"], ["c++", "-std=c++17", "-x", "c++"]])
-def test_the_headers_stand_alone(built: Path, words: List[str]) -> None:
+def test_the_headers_stand_alone(built: Path, words: list[str]) -> None:
     header = "roman.hpp" if "c++" in words else "roman.h"
     run(*words, "-Wall", "-Wextra", "-Wpedantic", "-Werror", "-fsyntax-only", built / "include" / header)
 
@@ -103,7 +107,18 @@ def test_the_headers_stand_alone(built: Path, words: List[str]) -> None:
 
 def test_the_example_in_c(built: Path, tmp_path: Path) -> None:
     source = LIBRARY / "examples" / "talk.c"
-    run("cc", "-std=c99", "-Wall", "-Wextra", "-Werror", "-o", tmp_path / "shared", source, *flags(built), f"-Wl,-rpath,{built}/lib")
+    run(
+        "cc",
+        "-std=c99",
+        "-Wall",
+        "-Wextra",
+        "-Werror",
+        "-o",
+        tmp_path / "shared",
+        source,
+        *flags(built),
+        f"-Wl,-rpath,{built}/lib",
+    )
     run("cc", "-o", tmp_path / "static", source, f"-I{built}/include", built / "lib" / "libroman.a")
     for name in ("shared", "static"):
         is_as_stored([tmp_path / name])
@@ -114,14 +129,34 @@ def test_the_example_in_c(built: Path, tmp_path: Path) -> None:
 
 def test_the_example_in_cpp(built: Path, tmp_path: Path) -> None:
     source = LIBRARY / "examples" / "talk.cpp"
-    words = ["c++", "-std=c++17", "-Wall", "-Wextra", "-Werror", *CHECKED, "-o", tmp_path / "talk", source, *flags(built)]
+    words = [
+        "c++",
+        "-std=c++17",
+        "-Wall",
+        "-Wextra",
+        "-Werror",
+        *CHECKED,
+        "-o",
+        tmp_path / "talk",
+        source,
+        *flags(built),
+    ]
     run(*words, f"-Wl,-rpath,{built}/lib")
     is_as_stored([tmp_path / "talk"])
 
 
 def test_the_example_in_rust(built: Path, tmp_path: Path) -> None:
     environment = {**os.environ, "ROMAN_LIBRARY": str(built / "lib"), "CARGO_TARGET_DIR": str(tmp_path)}
-    run("cargo", "build", "--offline", "--locked", "--example", "talk", cwd=LIBRARY / "examples" / "rust", env=environment)
+    run(
+        "cargo",
+        "build",
+        "--offline",
+        "--locked",
+        "--example",
+        "talk",
+        cwd=LIBRARY / "examples" / "rust",
+        env=environment,
+    )
     is_as_stored([tmp_path / "debug" / "examples" / "talk"])
 
 
@@ -133,8 +168,23 @@ def test_the_example_in_python(built: Path) -> None:
 
 
 def tried(built: Path, into: Path, *words: str) -> Path:
-    run("cc", "-g", "-O1", "-std=gnu11", "-Wall", "-Wextra", "-Werror", "-pthread", "-o", into, TOP / "tests" / "library.c",
-        f"-I{built}/include", built / "lib" / "libroman.a", *WRAPPED, *words)
+    run(
+        "cc",
+        "-g",
+        "-O1",
+        "-std=gnu11",
+        "-Wall",
+        "-Wextra",
+        "-Werror",
+        "-pthread",
+        "-o",
+        into,
+        TOP / "tests" / "library.c",
+        f"-I{built}/include",
+        built / "lib" / "libroman.a",
+        *WRAPPED,
+        *words,
+    )
     return into
 
 
@@ -152,7 +202,7 @@ def test_no_memory_is_lost_or_misused(built: Path, tmp_path: Path) -> None:
 
 def test_a_million_requests_take_no_more_memory(built: Path, tmp_path: Path) -> None:
     plain = tried(built, tmp_path / "plain")
-    peaks: Dict[int, int] = {}
+    peaks: dict[int, int] = {}
     for rounds in (1000, 1_000_000):
         process = subprocess.Popen([plain, LAMP, "rounds", str(rounds)], stdout=subprocess.DEVNULL)
         watch = threading.Timer(300, process.kill)
@@ -177,9 +227,25 @@ def test_a_minute_of_any_calls(built: Path, tmp_path: Path) -> None:
         (corpus / sample).write_bytes(document + b"\0" + part + b"\0" + calls)
     for file in (LIBRARY / "fuzz" / "corpus").iterdir():
         shutil.copy(file, corpus)
-    run("clang", "-g", "-O1", "-fsanitize=fuzzer,address,undefined", "-o", tmp_path / "fuzz", LIBRARY / "fuzz" / "fuzz.c",
-        f"-I{built}/include", built / "lib" / "libroman.a")
-    said = run(tmp_path / "fuzz", f"-max_total_time={FUZZ_SECONDS}", "-timeout=20", "-max_len=65536", f"-artifact_prefix={tmp_path}/", corpus,
-               timeout=FUZZ_SECONDS + 300).stderr.decode()
+    run(
+        "clang",
+        "-g",
+        "-O1",
+        "-fsanitize=fuzzer,address,undefined",
+        "-o",
+        tmp_path / "fuzz",
+        LIBRARY / "fuzz" / "fuzz.c",
+        f"-I{built}/include",
+        built / "lib" / "libroman.a",
+    )
+    said = run(
+        tmp_path / "fuzz",
+        f"-max_total_time={FUZZ_SECONDS}",
+        "-timeout=20",
+        "-max_len=65536",
+        f"-artifact_prefix={tmp_path}/",
+        corpus,
+        timeout=FUZZ_SECONDS + 300,
+    ).stderr.decode()
     ran = re.search(r"Done (\d+) runs", said)
     assert ran and int(ran[1]) > 100

@@ -8,7 +8,7 @@ import inspect
 import logging
 from collections.abc import Awaitable, Callable, Coroutine, Mapping
 from types import TracebackType
-from typing import Any, Optional
+from typing import Any
 
 from .. import protocol
 from ..core import Dispatching, Posted
@@ -64,7 +64,7 @@ class Dispatcher:
         )
         self._begun = False
         self._turn = asyncio.Lock()
-        self._inside: Optional[asyncio.Task[Any]] = None
+        self._inside: asyncio.Task[Any] | None = None
         self._draining: set[asyncio.Task[None]] = set()
 
     async def begin(self) -> Dispatcher:
