@@ -179,7 +179,7 @@ class Guide(unittest.TestCase):
             r"\./roman run .* \| diff": self.check_words,
             r'\{"name":"belt"': lambda block: self.check_json(block, "depot"),
             r"\$ tools/roman-lint ": self.check_findings,
-            r"\$ tools/roman-(draw|advice) ": self.check_told,
+            r"\$ tools/roman-(draw|advice|mend) ": self.check_told,
             r"\$ echo explain \| ": self.check_play,
             r"> do ": self.check_talk,
             r"set makeprg=": self.check_vim,
@@ -273,6 +273,8 @@ class Guide(unittest.TestCase):
     def check_told(self, block: str) -> None:
         """Words, and what they write."""
         words, told = block.split("\n", 1)
+        # The guide names this session in the text before it.
+        words = words.replace("why.session", "<(echo freeze kettle)")
         done = run("bash", "-c", words.removeprefix("$ "))
         self.assertEqual((done.returncode, done.stdout, done.stderr), (0, told, ""))
 
