@@ -378,7 +378,7 @@ class Install(Tree):
         self.assertEqual(self.install(str(self.prefix)).returncode, 0)
         guide = self.prefix / "share/doc/roman/GUIDE.md"
         text = guide.read_text(encoding="utf-8")
-        named = {*re.findall(r"\]\(([^)]+)\)", text), *re.findall(r"samples/[\w./-]*\w", text)}
+        named = {*re.findall(r"\]\(([^)]+)\)", text), *re.findall(r"samples/[\w./@-]*\w", text)}
         self.assertGreater(len(named), 15)
         for name in named:
             self.assertTrue((guide.parent / name).exists(), name)

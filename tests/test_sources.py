@@ -44,6 +44,9 @@ DOCUMENTS = Definition("roman_library.specs.Documents", "library_of")
 ENTRY = Definition("roman_model.specs.Arena", "Entry")
 
 
+PROOFS = {"Answers.antt", "Invariants.antt", "Proof.antt", "Send.antt"}
+"""Pages of a proof by name: the prover looks for their declarations itself."""
+
 PROMISES = {"served": "Served", "headline": "HasHeadline", "complete": "AnswersWherePossible", "input": ""}
 """The public clauses of `serve`, each with the definition that it begins with. None of them asks for anything."""
 PAGES = TOP / "tests" / "pages.sha256"
@@ -165,7 +168,7 @@ class Sources(unittest.TestCase):
         uncited: list[str] = []
         for file in sources("proofs", ".antt"):
             # Answers, invariants and whole proofs are named by the prover, and examples are there for themselves.
-            if file.name in ("Answers.antt", "Invariants.antt", "Proof.antt", "Send.antt") or file.name.endswith("Examples.antt"):
+            if file.name in PROOFS or file.name.endswith("Examples.antt"):
                 continue
             for declaration in declarations(pages[file]):
                 found = next((m for m in map(LEMMA.match, declaration.splitlines()) if m), None)
