@@ -25,10 +25,10 @@ GUIDE = (TOP / "docs" / "GUIDE.md").read_text(encoding="utf-8")
 CHAPTER = GUIDE[GUIDE.index("## Running your devices") : GUIDE.index("## Samples")]
 
 
-def block(language: str) -> str:
-    """The block of the chapter in that language, without what it is indented by."""
+def block(language: str, word: str = "") -> str:
+    """The block of the chapter in that language with a word, without what it is indented by."""
     blocks = re.findall(r"^( *)```(\w*)\n(.*?)^ *```$", CHAPTER, re.M | re.S)
-    ((indent, text),) = ((indent, text) for indent, name, text in blocks if name == language)
+    ((indent, text),) = ((indent, text) for indent, name, text in blocks if name == language and word in text)
     return str(re.sub(f"^{indent}", "", text, flags=re.M))
 
 
@@ -39,7 +39,7 @@ class Messages(unittest.TestCase):
         home.begin(0)
         answers = Answers(home.broker)
         self.addCleanup(answers.close)
-        commands = [shlex.split(command) for command in block("sh").splitlines()]
+        commands = [shlex.split(command) for command in block("sh", "mosquitto_pub").splitlines()]
         self.assertEqual(len(commands), 2)
         for words in commands:
             self.assertEqual(words[:3], ["mosquitto_pub", "-p", "18830"])
@@ -103,7 +103,7 @@ class OwnDevice(unittest.TestCase):
         return home
 
     def test_the_porch_serves(self) -> None:
-        home = self.porch(block(""))
+        home = self.porch(block("", "#!/"))
         self.assertEqual((home.folder / "porch.state").read_text(), "on\n")
 
     def test_the_kept_lamp_serves(self) -> None:
@@ -130,7 +130,7 @@ class Porch(Running):
             "def kettle(action):\n    return 'hot' if action == 'boil' else 'empty'\n", encoding="utf-8"
         )
         (self.folder / "home.toml").write_text(
-            f'document = "home.json"\n[page]\nport = {port}\n{block("toml")}{more}'
+            f'document = "home.json"\n[page]\nport = {port}\n{block("toml", "[devices.porch]")}{more}'
             '[devices.kettle]\nreach = "python"\ncall = "pots:kettle"\n',
             encoding="utf-8",
         )

@@ -262,7 +262,7 @@ class Beginning(InProcess):
         with self.assertLogs("roman_live", "INFO") as logged:
             await home.requests.serve("brighten")
             home.fleet.late("kettle", "says something")
-        self.assertIn("INFO:roman_live:window is asked to brighten", logged.output)
+        self.assertIn("INFO:roman_live:window is asked to brighten (the first of window, ceiling)", logged.output)
         self.assertIn("INFO:roman_live:kettle says something", logged.output)
 
     async def test_each_event_is_logged_once(self) -> None:
