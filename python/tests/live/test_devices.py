@@ -261,7 +261,7 @@ class Serving(Devices):
         self.mqtt.listen("roman/state")
         until(lambda: states, "the retained state")
         self.served("brighten")
-        now = {"state": "open", "status": "ready"}
+        now = {"state": "open", "status": "ready", "error": None}
         until(lambda: states[-1]["services"]["window"] == now, "the new state")
         self.assertEqual(states[-1]["target"], "bright")
         self.assertEqual(states[-1]["offers"], {"boil": ["kettle"]})

@@ -415,7 +415,7 @@ class InWords(Browsing):
         self.wait_for_text("events", "window is asked to brighten for the page (the first of window, ceiling, desk)")
 
 
-FRAME = "<iframe id='frame' src='{}/?token=open+sesame' width='900' height='700'></iframe>"
+FRAME = f"<iframe id='frame' src='{{}}/?token={TOKEN}' width='900' height='700'></iframe>"
 
 
 class InAFrame(Browsing):
@@ -425,7 +425,8 @@ class InAFrame(Browsing):
         frames = f'frame_ancestors = ["http://localhost:{port}"]\n' if allowed else ""
         home = Played(f'token_file = "token"\n{frames}')
         self.addCleanup(home.close)
-        (home.folder / "token").write_text("open sesame\n", encoding="utf-8")
+        (home.folder / "token").write_text(f"{TOKEN}\n", encoding="utf-8")
+        (home.folder / "token").chmod(0o600)
         home.begin()
 
         class Card(BaseHTTPRequestHandler):

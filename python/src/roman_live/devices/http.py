@@ -52,7 +52,7 @@ class Client:
                 data = await _read(response)
                 status = response.status
         except aiohttp.ClientConnectorError as error:
-            check_want(error.os_error)
+            check_want(error)
             raise DeviceFailed(f"{shown}: {unreached(error)}") from None
         except aiohttp.ClientError as error:
             raise DeviceLost(f"{shown}: {error or type(error).__name__}") from None
