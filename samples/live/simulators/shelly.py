@@ -80,7 +80,6 @@ class Roller(HttpDevice):
             return web.Response(status=400, text="Bad go!")
         if go in ("open", "close", "to_pos"):
             to = int(request.query.get("roller_pos", 0)) if go == "to_pos" else 100 if go == "open" else 0
-            self.moving = "open" if to > self.position else "close"
             await self.obey(lambda: self.world.soon(self._move(to)))
         return web.Response(text=self.message, content_type="application/json")
 
