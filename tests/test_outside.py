@@ -381,7 +381,8 @@ class Install(Tree):
         named = {*re.findall(r"\]\(([^)]+)\)", text), *re.findall(r"samples/[\w./@-]*\w", text)}
         self.assertGreater(len(named), 15)
         for name in named:
-            self.assertTrue((guide.parent / name).exists(), name)
+            if not name.startswith("https://"):
+                self.assertTrue((guide.parent / name).exists(), name)
         program = str(self.prefix / "bin/roman")
         done = run(program, "run", "samples/greenhouse.json", "samples/greenhouse.session", cwd=guide.parent)
         self.assertEqual(done.stdout, (guide.parent / "samples/greenhouse.replies").read_text(encoding="utf-8"))
