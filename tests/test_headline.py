@@ -2,7 +2,6 @@
 
 import re
 import subprocess
-import unittest
 from collections import Counter
 from html.parser import HTMLParser
 
@@ -30,37 +29,30 @@ class Places(HTMLParser):
                 self.led_to.append(value[1:])
 
 
-class Headline(unittest.TestCase):
-    def done(self, *words: str) -> "subprocess.CompletedProcess[str]":
-        return subprocess.run([str(TOOL), *words], capture_output=True, text=True, check=False, timeout=60)
-
-    def test_it_is_in_step_with_the_sources(self) -> None:
-        self.assertEqual(self.done("--check").returncode, 0, "tools/headline writes it anew")
-
-    def test_each_source_is_where_the_page_says(self) -> None:
-        page = PAGE.read_text(encoding="utf-8")
-        places = LINK.findall(page)
-        self.assertGreater(len(places), 200)
-        for (file, line), name in zip(places, re.findall(r"^### .*`(.*)`$", page, re.M)):
-            self.assertIn(name, (PAGE.parent / file).read_text(encoding="utf-8").splitlines()[int(line) - 1])
-
-    def test_each_link_leads_to_one_place(self) -> None:
-        done = self.done("--html")
-        self.assertEqual((done.returncode, done.stderr), (0, ""))
-        page = Places(done.stdout)
-        self.assertEqual({*page.led_to} - {*page.places}, set())
-        self.assertEqual([place for place, count in Counter(page.places).items() if count > 1], [])
-
-    def test_both_forms_have_the_same_definitions(self) -> None:
-        names = [
-            re.findall(pattern, text)
-            for pattern, text in (
-                (r'<h3><a id="([^"]*)"', self.done("--html").stdout),
-                (r'### <a id="([^"]*)"', PAGE.read_text(encoding="utf-8")),
-            )
-        ]
-        self.assertEqual(*names)
+def headline(*words: str) -> "subprocess.CompletedProcess[str]":
+    return subprocess.run([str(TOOL), *words], capture_output=True, text=True, check=False, timeout=60)
 
 
-if __name__ == "__main__":
-    unittest.main()
+def test_it_is_in_step_with_the_sources() -> None:
+    assert headline("--check").returncode == 0, "tools/headline writes it anew"
+
+
+def test_each_source_is_where_the_page_says() -> None:
+    page = PAGE.read_text(encoding="utf-8")
+    places = LINK.findall(page)
+    assert len(places) > 200
+    for (file, line), name in zip(places, re.findall(r"^### .*`(.*)`$", page, re.M)):
+        assert name in (PAGE.parent / file).read_text(encoding="utf-8").splitlines()[int(line) - 1]
+
+
+def test_each_link_leads_to_one_place() -> None:
+    done = headline("--html")
+    assert (done.returncode, done.stderr) == (0, "")
+    page = Places(done.stdout)
+    assert {*page.led_to} - {*page.places} == set()
+    assert [place for place, count in Counter(page.places).items() if count > 1] == []
+
+
+def test_both_forms_have_the_same_definitions() -> None:
+    shown = re.findall(r'<h3><a id="([^"]*)"', headline("--html").stdout)
+    assert shown == re.findall(r'### <a id="([^"]*)"', PAGE.read_text(encoding="utf-8"))

@@ -1,7 +1,6 @@
 """What holds of the sources as a whole, and no proof says."""
 
 import re
-import unittest
 from collections import Counter, defaultdict
 from collections.abc import Iterator
 from pathlib import Path
@@ -16,6 +15,7 @@ WORD = re.compile(r"[^\s(){}\[\],;.λ→∙×⊎≡:=|`]+")
 LEMMA = re.compile(r" *(pub )?(?:abbrev )?(pub )?([^\s:(){}◌]+) :(?: |$)", re.M)
 MODULE = re.compile(r"(?: *--.*\n)* *module (?:.*\n)*?.*\bwhere\n")
 DEFINED = re.compile(r"^(?:abbrev pub|unfoldable pub|pub record|pub data) +([A-Za-z_]+)", re.M)
+ITEM = re.compile(r"\b(?:fn|struct|enum|trait|const|mod|type) +([A-Za-z_]\w*)")
 COMMON = re.compile(r"use Rattle\.(roman_\w+)\.proofs\.Common\.\{(.*)\}$")
 TAKEN = re.compile(r"use (\S+)\.\{(.*)\}$")
 PASSED_ON = re.compile(r"(?:unfoldable )?pub use \S+\.\{(.*)\}$")
@@ -43,6 +43,13 @@ NOT_IN_HEADLINE = {
 DOCUMENTS = Definition("roman_library.specs.Documents", "library_of")
 ENTRY = Definition("roman_model.specs.Arena", "Entry")
 
+
+# The engine's word for what one may want to name so. These words mean other things: see the table in CONTRIBUTING.
+ENGINE_WORDS = {"ask": "probe", "event": "batch", "turn": "attempt", "way": "shift", "run": "stripe"}
+ENGINE = {
+    f"roman_{name}"
+    for name in ("lanes order rules joint relation generator repair repair_laws rank cert check".split())
+}
 
 PROOFS = {"Answers.antt", "Invariants.antt", "Proof.antt", "Send.antt"}
 """Pages of a proof by name: the prover looks for their declarations itself."""
@@ -74,120 +81,150 @@ def declarations(page: str, depth: int = 0) -> Iterator[str]:
             yield declaration
 
 
-class Promises(unittest.TestCase):
-    """The clauses of `serve`, those of the outside and the laws, and the definitions that they rest on, change only
-    together with this file or with the digests beside it. So none is weakened unseen."""
-
-    def test_the_clauses_of_serve(self) -> None:
-        serve = [source for one, source in promises().items() if one.name == "serve"]
-        self.assertEqual(len(serve), 1)
-        clauses = re.findall(r"^    (requires|ensures) (?:(\w+) )?\{ (\w*)", serve[0].text, re.M)
-        self.assertEqual(clauses, [("ensures", name, definition) for name, definition in PROMISES.items()])
-
-    def test_the_digests_of_the_pages(self) -> None:
-        kept, now = (
-            dict(line.split("  ")[::-1] for line in text.splitlines())
-            for text in (PAGES.read_text(encoding="utf-8"), digests())
-        )
-        changed = {page for page in {*kept, *now} if kept.get(page) != now.get(page)}
-        self.assertEqual(changed, set(), "If the change is meant, tools/pages renews the digests")
+# The clauses of `serve`, those of the outside and the laws, and the definitions that they rest on, change only
+# together with this file or with the digests beside it. So none is weakened unseen.
 
 
-class Sources(unittest.TestCase):
-    def test_other_crates_are_cited_by_their_page_for_callers(self) -> None:
-        inside: list[str] = []
-        for part, ending in (("proofs", ".antt"), ("specs", ".antt"), ("src", ".rt")):
-            for file in sources(part, ending):
-                mine = file.relative_to(CRATES).parts[0]
-                for found in CITED.finditer(file.read_text(encoding="utf-8")):
-                    crate, page = found[1] or found[3], found[2] or found[4]
-                    if crate != mine and page != "CallerLemmas":
-                        inside.append(f"{file.relative_to(TOP)}: {found[0]}")
-        self.assertEqual(inside, [])
+def test_the_clauses_of_serve() -> None:
+    serve = [source for one, source in promises().items() if one.name == "serve"]
+    assert len(serve) == 1
+    clauses = re.findall(r"^    (requires|ensures) (?:(\w+) )?\{ (\w*)", serve[0].text, re.M)
+    assert clauses == [("ensures", name, definition) for name, definition in PROMISES.items()]
 
-    def test_the_page_of_common_names_passes_on_what_pages_cite(self) -> None:
-        unused: list[str] = []
-        for file in sources("proofs", "Common.antt"):
-            folder = file.parent
-            taken: Counter = Counter()
-            for page in folder.rglob("*.antt"):
-                for line in page.read_text(encoding="utf-8").splitlines():
-                    found = COMMON.match(line)
-                    if found and found[1] == folder.parent.name:
-                        taken.update(found[2].split(", "))
-            for line in file.read_text(encoding="utf-8").splitlines():
-                passed = PASSED_ON.match(line)
-                unused += (
-                    [f"{file.relative_to(TOP)}: {name}" for name in passed[1].split(", ") if not taken[name]]
-                    if passed
-                    else []
-                )
-        self.assertEqual(unused, [])
 
-    def test_pages_take_names_from_elsewhere_by_the_page_of_common_names(self) -> None:
-        direct: list[str] = []
-        for file in sources("proofs", "Common.antt"):
-            folder = file.parent
-            passed = {
-                name
-                for line in file.read_text(encoding="utf-8").splitlines()
-                for found in [PASSED_ON.match(line)]
-                if found
-                for name in found[1].split(", ")
-            }
-            for page in folder.rglob("*.antt"):
-                if page.name in ("Lib.antt", "CallerLemmas.antt", "Common.antt"):
-                    continue
-                for line in page.read_text(encoding="utf-8").splitlines():
-                    found = TAKEN.match(line)
-                    if found and not found[1].startswith(f"Rattle.{folder.parent.name}.proofs."):
-                        # A name that two pages elsewhere declare can be passed on from one of them only.
-                        direct += [
-                            f"{page.relative_to(TOP)}: {name}"
-                            for name in found[2].split(", ")
-                            if name not in passed and " as " not in name
-                        ]
-        self.assertEqual(direct, [])
+def test_the_digests_of_the_pages() -> None:
+    kept, now = (
+        dict(line.split("  ")[::-1] for line in text.splitlines())
+        for text in (PAGES.read_text(encoding="utf-8"), digests())
+    )
+    changed = {page for page in {*kept, *now} if kept.get(page) != now.get(page)}
+    assert changed == set(), "If the change is meant, tools/pages renews the digests"
 
-    def test_a_definition_s_name_stands_for_one_thing(self) -> None:
-        places: dict[str, list[str]] = defaultdict(list)
-        for file in sources("specs", ".antt"):
-            for found in DEFINED.finditer(file.read_text(encoding="utf-8")):
-                places[found[1]].append(str(file.relative_to(TOP)))
-        self.assertEqual({name: where for name, where in places.items() if len(where) > 1}, {})
 
-    def test_each_lemma_is_cited(self) -> None:
-        pages = {
-            file: file.read_text(encoding="utf-8")
-            for part, ending in (("proofs", ".antt"), ("specs", ".antt"), ("src", ".rt"))
-            for file in sources(part, ending)
+def test_other_crates_are_cited_by_their_page_for_callers() -> None:
+    inside: list[str] = []
+    for part, ending in (("proofs", ".antt"), ("specs", ".antt"), ("src", ".rt")):
+        for file in sources(part, ending):
+            mine = file.relative_to(CRATES).parts[0]
+            for found in CITED.finditer(file.read_text(encoding="utf-8")):
+                crate, page = found[1] or found[3], found[2] or found[4]
+                if crate != mine and page != "CallerLemmas":
+                    inside.append(f"{file.relative_to(TOP)}: {found[0]}")
+    assert inside == []
+
+
+def test_a_line_of_a_contract_has_at_most_120_letters() -> None:
+    long = [
+        f"{file.relative_to(TOP)}:{number}"
+        for file in sources("src", ".rt")
+        for number, line in enumerate(file.read_text(encoding="utf-8").splitlines(), 1)
+        if len(line) > 120 and '"' not in line and not line.lstrip().startswith(("ghost use ", "#[tactic("))
+    ]
+    assert long == []
+
+
+def test_the_page_of_common_names_passes_on_what_pages_cite() -> None:
+    unused: list[str] = []
+    for file in sources("proofs", "Common.antt"):
+        folder = file.parent
+        taken: Counter = Counter()
+        for page in folder.rglob("*.antt"):
+            for line in page.read_text(encoding="utf-8").splitlines():
+                found = COMMON.match(line)
+                if found and found[1] == folder.parent.name:
+                    taken.update(found[2].strip().split(", "))
+        for line in file.read_text(encoding="utf-8").splitlines():
+            passed = PASSED_ON.match(line)
+            unused += (
+                [f"{file.relative_to(TOP)}: {name}" for name in passed[1].strip().split(", ") if not taken[name]]
+                if passed
+                else []
+            )
+    assert unused == []
+
+
+def test_pages_take_names_from_elsewhere_by_the_page_of_common_names() -> None:
+    direct: list[str] = []
+    for file in sources("proofs", "Common.antt"):
+        folder = file.parent
+        passed = {
+            name
+            for line in file.read_text(encoding="utf-8").splitlines()
+            for found in [PASSED_ON.match(line)]
+            if found
+            for name in found[1].split(", ")
         }
-        everywhere: Counter = Counter()
-        for page in pages.values():
-            everywhere.update(words(page))
-        uncited: list[str] = []
-        for file in sources("proofs", ".antt"):
-            # Answers, invariants and whole proofs are named by the prover, and examples are there for themselves.
-            if file.name in PROOFS or file.name.endswith("Examples.antt"):
+        for page in folder.rglob("*.antt"):
+            if page.name in ("Lib.antt", "CallerLemmas.antt", "Common.antt"):
                 continue
-            for declaration in declarations(pages[file]):
-                found = next((m for m in map(LEMMA.match, declaration.splitlines()) if m), None)
-                if not found:
-                    continue
-                # A lemma that isn't public is cited on its own page, or nowhere.
-                around = everywhere if found[1] or found[2] else words(pages[file])
-                if around[found[3]] == words(declaration)[found[3]]:
-                    uncited.append(f"{file.relative_to(TOP)}: {found[3]}")
-        self.assertEqual(uncited, [])
+            for line in page.read_text(encoding="utf-8").splitlines():
+                found = TAKEN.match(line)
+                if found and not found[1].startswith(f"Rattle.{folder.parent.name}.proofs."):
+                    # A name that two pages elsewhere declare can be passed on from one of them only.
+                    direct += [
+                        f"{page.relative_to(TOP)}: {name}"
+                        for name in found[2].split(", ")
+                        if name not in passed and " as " not in name
+                    ]
+    assert direct == []
 
-    def test_what_readers_are_sent_to_rests_on_few_definitions(self) -> None:
-        counts = {root: sum(not is_declared(found) for found in rests_on([root])) for root in RESTS_ON}
-        self.assertEqual(counts, RESTS_ON)
 
-    def test_the_headline_names_nothing_that_is_computed(self) -> None:
-        for root in (
-            Definition("roman_top.specs.Headline", "KeepsPromise"),
-            Definition("roman_top.specs.HeadlineTargets", "KeepsTargets"),
-        ):
-            beside = rests_on([root]) - rests_on([DOCUMENTS])
-            self.assertEqual({found for found in beside if found.page in NOT_IN_HEADLINE}, {ENTRY})
+def test_a_definition_s_name_stands_for_one_thing() -> None:
+    places: dict[str, list[str]] = defaultdict(list)
+    for file in sources("specs", ".antt"):
+        for found in DEFINED.finditer(file.read_text(encoding="utf-8")):
+            places[found[1]].append(str(file.relative_to(TOP)))
+    assert {name: where for name, where in places.items() if len(where) > 1} == {}
+
+
+def test_the_engine_has_one_word_for_each_thing() -> None:
+    other = []
+    for part, ending in (("src", ".rt"), ("specs", ".antt"), ("proofs", ".antt")):
+        for page in sources(part, ending):
+            if page.relative_to(CRATES).parts[0] not in ENGINE:
+                continue
+            text = page.read_text(encoding="utf-8")
+            lemmas = [name for _, _, name in LEMMA.findall(text)]
+            for name in ITEM.findall(text) if part == "src" else lemmas + DEFINED.findall(text):
+                words_of = {word.lower().removesuffix("s") for word in re.findall(r"[A-Z]?[a-z]+", name)}
+                other += [f"{page.name}: {name} ({ENGINE_WORDS[word]})" for word in words_of & ENGINE_WORDS.keys()]
+    assert other == []
+
+
+def test_each_lemma_is_cited() -> None:
+    pages = {
+        file: file.read_text(encoding="utf-8")
+        for part, ending in (("proofs", ".antt"), ("specs", ".antt"), ("src", ".rt"))
+        for file in sources(part, ending)
+    }
+    everywhere: Counter = Counter()
+    for page in pages.values():
+        everywhere.update(words(page))
+    uncited: list[str] = []
+    for file in sources("proofs", ".antt"):
+        # Answers, invariants and whole proofs are named by the prover, and examples are there for themselves.
+        if file.name in PROOFS or file.name.endswith("Examples.antt"):
+            continue
+        for declaration in declarations(pages[file]):
+            found = next((m for m in map(LEMMA.match, declaration.splitlines()) if m), None)
+            if not found:
+                continue
+            # A lemma that isn't public is cited on its own page, or nowhere.
+            around = everywhere if found[1] or found[2] else words(pages[file])
+            if around[found[3]] == words(declaration)[found[3]]:
+                uncited.append(f"{file.relative_to(TOP)}: {found[3]}")
+    assert uncited == []
+
+
+def test_what_readers_are_sent_to_rests_on_few_definitions() -> None:
+    counts = {root: sum(not is_declared(found) for found in rests_on([root])) for root in RESTS_ON}
+    assert counts == RESTS_ON
+
+
+def test_the_headline_names_nothing_that_is_computed() -> None:
+    for root in (
+        Definition("roman_top.specs.Headline", "KeepsPromise"),
+        Definition("roman_top.specs.HeadlineTargets", "KeepsTargets"),
+    ):
+        beside = rests_on([root]) - rests_on([DOCUMENTS])
+        assert {found for found in beside if found.page in NOT_IN_HEADLINE} == {ENTRY}

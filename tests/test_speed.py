@@ -11,8 +11,6 @@ import json
 import os
 import re
 import subprocess
-import tempfile
-import unittest
 from concurrent.futures import ThreadPoolExecutor
 from dataclasses import dataclass
 from pathlib import Path
@@ -229,14 +227,18 @@ def digest(text: bytes) -> str:
     return hashlib.sha256(plain(text)).hexdigest()[:16]
 
 
-def measured(folder: Path) -> dict[str, dict[str, dict[str, Any]]]:
+Table = dict[str, dict[str, dict[str, Any]]]
+"""Figures by the system and the command."""
+
+
+def measured(folder: Path) -> Table:
     """The table of figures, with the status and the output of each run."""
     bench = Bench(folder)
     runs = [(name, command) for name, commands in MEASURED.items() for command in commands]
     with ThreadPoolExecutor(4) as pool:
         counted = list(pool.map(lambda each: bench.millions(*each), runs))
         peaks = list(pool.map(lambda each: bench.megabytes(*each), runs))
-    table: dict[str, dict[str, dict[str, Any]]] = {name: {} for name in MEASURED}
+    table: Table = {name: {} for name in MEASURED}
     for (name, command), count, peak in zip(runs, counted, peaks):
         if (count.status, count.text) != (peak.status, peak.text):
             raise AssertionError(f"two runs of {command} on {name} differ")
@@ -249,61 +251,55 @@ def measured(folder: Path) -> dict[str, dict[str, dict[str, Any]]]:
     return table
 
 
-class Speed(unittest.TestCase):
-    table: dict[str, dict[str, dict[str, Any]]]
-
-    @classmethod
-    def setUpClass(cls) -> None:
-        folder = tempfile.TemporaryDirectory()
-        cls.addClassCleanup(folder.cleanup)
-        cls.folder = Path(folder.name)
-        cls.reached = json.loads(TABLE.read_text(encoding="utf-8"))
-        cls.table = measured(cls.folder)
-
-    def each(self) -> list[tuple[str, str, dict[str, Any], dict[str, Any]]]:
-        return [
-            (name, command, self.reached[name][command], now)
-            for name, commands in self.table.items()
-            for command, now in commands.items()
-        ]
-
-    def test_each_figure_is_measured(self) -> None:
-        self.assertEqual(
-            {name: sorted(commands) for name, commands in self.reached.items()},
-            {name: sorted(commands) for name, commands in MEASURED.items()},
-        )
-
-    def test_what_is_measured_is_right(self) -> None:
-        """The certificates that are checked are right, and each run ends as it did, with what it wrote then."""
-        for name, related in RELATED.items():
-            report = subprocess.run(
-                [PROGRAM, "synth", f"{name}.json"], cwd=self.folder, capture_output=True, check=False
-            )
-            self.assertIn(f"\nrelated {related}\n", report.stdout.decode())
-        for name in ("workers", "lamps"):
-            done = subprocess.run(
-                [PROGRAM, "check", f"{name}.json", f"{name}.cert"], cwd=self.folder, capture_output=True, check=False
-            )
-            self.assertEqual(done.stdout.decode(), f"greatest {RELATED[name]}\nanswer composition\n")
-        for name, command, reached, now in self.each():
-            with self.subTest(system=name, command=command):
-                self.assertEqual((now["status"], now["output"]), (reached["status"], reached["output"]))
-
-    def bounded(self, figure: str) -> None:
-        for name, command, reached, now in self.each():
-            with self.subTest(system=name, command=command):
-                room = SLACK if figure == "megabytes" else 0
-                self.assertLess(now[figure], reached[figure] * MOST + room)
-                self.assertGreater(
-                    now[figure], reached[figure] * LEAST - room, "a gain: write it down by tests/speed.py"
-                )
-
-    def test_instructions(self) -> None:
-        self.bounded("millions")
-
-    def test_memory(self) -> None:
-        self.bounded("megabytes")
+REACHED: Table = json.loads(TABLE.read_text(encoding="utf-8"))
+FIGURES = [
+    pytest.param(name, command, id=f"{name} {command}") for name, commands in MEASURED.items() for command in commands
+]
 
 
-if __name__ == "__main__":
-    unittest.main()
+@pytest.fixture(scope="module")
+def folder(tmp_path_factory: pytest.TempPathFactory) -> Path:
+    """The folder with what is measured."""
+    return tmp_path_factory.mktemp("speed")
+
+
+@pytest.fixture(scope="module")
+def table(folder: Path) -> Table:
+    return measured(folder)
+
+
+def test_each_figure_is_measured() -> None:
+    measured_now = {name: sorted(commands) for name, commands in MEASURED.items()}
+    assert {name: sorted(commands) for name, commands in REACHED.items()} == measured_now
+
+
+def test_what_is_measured_is_right(table: Table, folder: Path) -> None:
+    """The certificates that are checked are right, and each run ends as it did, with what it wrote then."""
+    for name, related in RELATED.items():
+        report = subprocess.run([PROGRAM, "synth", f"{name}.json"], cwd=folder, capture_output=True, check=False)
+        assert f"\nrelated {related}\n" in report.stdout.decode()
+    for name in ("workers", "lamps"):
+        words = [PROGRAM, "check", f"{name}.json", f"{name}.cert"]
+        done = subprocess.run(words, cwd=folder, capture_output=True, check=False)
+        assert done.stdout.decode() == f"greatest {RELATED[name]}\nanswer composition\n"
+
+
+@pytest.mark.parametrize("name, command", FIGURES)
+def test_it_ends_as_it_did(name: str, command: str, table: Table) -> None:
+    now, reached = table[name][command], REACHED[name][command]
+    assert (now["status"], now["output"]) == (reached["status"], reached["output"])
+
+
+def bounded(now: float, reached: float, room: float = 0) -> None:
+    assert now < reached * MOST + room
+    assert now > reached * LEAST - room, "a gain: write it down by tests/speed.py"
+
+
+@pytest.mark.parametrize("name, command", FIGURES)
+def test_instructions(name: str, command: str, table: Table) -> None:
+    bounded(table[name][command]["millions"], REACHED[name][command]["millions"])
+
+
+@pytest.mark.parametrize("name, command", FIGURES)
+def test_memory(name: str, command: str, table: Table) -> None:
+    bounded(table[name][command]["megabytes"], REACHED[name][command]["megabytes"], SLACK)

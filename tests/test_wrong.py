@@ -22,22 +22,22 @@ pytestmark = pytest.mark.alone
 CLIENT = "python/tests/client/"
 SAMPLES = "samples/try"
 
-EACH_BLOCK = "tests/test_guide.py::Guide::test_each_block_is_tried"
-TABLES = "tests/test_guide.py::Guide::test_the_tables_of_the_workshop"
-LATE = "tests/test_edges.py::Outside::test_output_that_is_read_late"
+EACH_BLOCK = "tests/test_guide.py::test_each_block_is_tried"
+TABLES = "tests/test_guide.py::test_the_tables_of_the_workshop"
+LATE = "tests/test_edges.py::test_output_that_is_read_late"
 ACCEPTED = "tests/test_schema.py::test_what_the_program_accepts_the_schema_accepts"
 RANDOM = "tests/test_random.py::test_a_run_as_the_reference_says"
 SYNTH, CHECK, RUN_AS = (f"{RANDOM}[{kind}]" for kind in ("synth", "check", "run"))
 CORPUS = "tests/test_random.py::test_a_case_of_the_corpus"
-SPEED = "tests/test_speed.py::Speed"
-FAULTS = "tests/test_faults.py::Faults"
+SPEED = "tests/test_speed.py"
+FAULTS = "tests/test_faults.py"
 FEW_BYTES = FAULTS + "::test_calls_that_move_few_bytes"
 TRIED = FAULTS + "::test_what_is_tried_is_right"
-ENDS = "tests/test_outside.py::Ends"
-EVENTS = CLIENT + "test_session.py::Events"
-DISPATCHING = CLIENT + "test_dispatcher.py::Dispatching"
-STATES = CLIENT + "test_documents.py::Writing::test_a_document_with_the_states_of_a_report"
-OTHER_SAMPLES = CLIENT + "test_dispatcher.py::Demonstration::test_the_other_samples"
+ENDS = "tests/test_outside.py"
+EVENTS = CLIENT + "test_session.py"
+DISPATCHING = CLIENT + "test_dispatcher.py"
+STATES = CLIENT + "test_documents.py::test_a_document_with_the_states_of_a_report"
+OTHER_SAMPLES = CLIENT + "test_dispatcher.py::test_the_other_samples"
 LONG = (RANDOM, SPEED, FAULTS)
 """Tests that take long, or look at the process itself."""
 
@@ -141,7 +141,7 @@ WRONG = [
             CORPUS,
             OTHER_SAMPLES,
             SAMPLES,
-            f"{SPEED}::test_what_is_measured_is_right",
+            f"{SPEED}::test_it_ends_as_it_did",
             f"{FAULTS}::test_memory",
             f"{FAULTS}::test_reads",
             f"{FAULTS}::test_writes",
@@ -149,7 +149,7 @@ WRONG = [
             TRIED,
             f"{ENDS}::test_a_file_that_can_not_be_read",
             "tests/test_schema.py::test_parts_by_file",
-            "tests/test_edges.py::Outside::test_input_in_odd_pieces",
+            "tests/test_edges.py::test_input_in_odd_pieces",
             f"{EVENTS}::test_each_refusal",
             f"{DISPATCHING}::test_a_failure_goes_to_another",
             STATES,
@@ -182,7 +182,7 @@ WRONG = [
             OTHER_SAMPLES,
             TRIED,
             f"{DISPATCHING}::test_services_come_back",
-            "tests/test_edges.py::Outside::test_each_reply_comes_before_the_next_line_is_asked_for",
+            "tests/test_edges.py::test_each_reply_comes_before_the_next_line_is_asked_for",
         ],
     ),
     Wrong(
@@ -199,7 +199,7 @@ WRONG = [
     Wrong(
         "replies only at the end",
         f'kept=$(mktemp)\n{RUN} >"$kept"\nended=$?\ncat "$kept"\nrm "$kept"\nexit $ended\n',
-        ["tests/test_edges.py::Outside::test_each_reply_comes_before_the_next_line_is_asked_for"],
+        ["tests/test_edges.py::test_each_reply_comes_before_the_next_line_is_asked_for"],
     ),
     Wrong(
         "a report of the start after a jump",
@@ -243,7 +243,7 @@ WRONG = [
     Wrong(
         "a rejected certificate is fine",
         f'{RUN}\nended=$?\n[ "$1" = check ] && exit 0\nexit $ended\n',
-        [CHECK, "tests/test_guide.py::Guide::test_the_rejections_of_certificates"],
+        [CHECK, "tests/test_guide.py::test_the_rejections_of_certificates"],
     ),
     Wrong(
         "nothing on the standard error",
@@ -276,15 +276,15 @@ WRONG = [
         ends_well(5, 6),
         [
             f"{FAULTS}::test_reads",
-            "tests/test_edges.py::Outside::test_folders_and_files_that_are_not_there",
-            CLIENT + "test_session.py::Ends::test_a_document_that_is_not_there",
+            "tests/test_edges.py::test_folders_and_files_that_are_not_there",
+            CLIENT + "test_session.py::test_a_document_that_is_not_there",
         ],
         is_c=True,
     ),
     Wrong(
         "done where nothing could be written",
         ends_well(7),
-        [f"{FAULTS}::test_writes", "tests/test_edges.py::Outside::test_output_that_is_closed"],
+        [f"{FAULTS}::test_writes", "tests/test_edges.py::test_output_that_is_closed"],
         is_c=True,
     ),
 ]

@@ -1,12 +1,7 @@
 -- What the proof pages of this crate cite from elsewhere, passed on from one place. Declares nothing.
-pub use Rattle.roman_read.specs.Names.{place_of}
-pub use Rattle.std.specs.List.{position_or_len}
-pub use Rattle.std.proofs.Math.Seq.{drop-cons}
-pub use Rattle.std.proofs.lemmas.Bool.{cond-true, cond-false, lt-ltb, le-ltb}
-pub use Rattle.std.specs.Str.{bytes_eq}
-pub use Rattle.std.proofs.Common.{List, [], ap, arith, lit<, map, refl, subst, sym, ℕ, ◌++◌, ◌<◌, ◌∙◌, ◌∷◌, ◌≡◌, ◌≤◌, ◌+◌, length, get_or}
+pub use Rattle.std.proofs.Common.{List, [], ap, arith, lit<, map, refl, subst, sym, ℕ, ◌++◌, ◌<◌, ◌∙◌, ◌∷◌, ◌≡◌, ◌≤◌}
 pub use Rattle.std.proofs.Crossing.{frees}
-pub use Rattle.std.proofs.lemmas.List.{length-map, drop_all}
+pub use Rattle.std.proofs.lemmas.List.{length-map}
 pub use Rattle.std.proofs.raw_atomic.Walks.{leaves, proved_at}
 pub use Rattle.std.specs.Int.{bit_at}
 pub use Rattle.std.specs.Prelude.{None, Option, Some}
@@ -26,6 +21,7 @@ pub use Rattle.core.specs.declared.alloc.Allocator.{Ghosts}
 pub use Rattle.roman_io.specs.Memory.{texts_of}
 pub use Rattle.roman_io.specs.Shelf.{text_at}
 pub use Rattle.roman_joint.specs.Names.{seat_name}
+pub use Rattle.roman_read.proofs.CallerLemmas.{IsPast, past_found, past_next, past_none}
 pub use Rattle.roman_rules.specs.Bits.{bit_of, has_seat}
 pub use Rattle.roman_session.proofs.CallerLemmas.{mapped_at}
 pub use base.Fml.{flft, fsep, ftrue}
@@ -59,7 +55,7 @@ pub use mir.Val.{Val, WT, has_ty, of_list, vbool, vcons, vnil, vptr, vstruct}
 pub use prog.Wp.{WpFn}
 pub use seplogic.Ra.Ura.{Ura}
 pub use types.ByLocal.{alloc_all, env, free_all, get, get_in, lands_as, lands_last, look_at, pass_all, sets, sets_last}
-pub use types.Kit.{Goal, !, Item, Seq, Step, at_ret, await, by, drop, feq_i, feq_l, fjoin, fpack, fpick, fsplit, given, join, keep, later, learn, move, pick, qed, raw, rewrite, some, split, split3, step, suffices, use0, use1, ‵, ◌$◌, ◌∵◌, ◌⊛◌}
+pub use types.Kit.{ !, Goal, Item, Seq, Step, at_ret, await, by, drop, feq_i, feq_l, fjoin, fpack, fpick, fsplit, given, join, keep, later, learn, move, pick, qed, raw, rewrite, some, split, split3, step, suffices, use0, use1, ‵, ◌$◌, ◌∵◌, ◌⊛◌}
 pub use types.Logic.{Logic, sem}
 pub use types.Match.{live}
 pub use types.Part.{agg, sub, whole}
@@ -67,3 +63,7 @@ pub use types.Run.{and_then, blocks, branches, enter, exec, false_lit, first, fl
 pub use Rattle.roman_c.specs.Owned.{held_owns}
 pub use Rattle.roman_c.specs.contracts.held.Held.{the_row, the_type}
 pub use Rattle.roman_c.specs.contracts.held.Held.into_loose.{clauses, ended}
+pub use Rattle.roman_io.specs.Shelf.{Texts}
+pub use Rattle.roman_top.specs.Command.{Job}
+pub use Rattle.roman_c.specs.Contents.{reply_in}
+pub use Rattle.roman_c.specs.Jobs.{HasDone}

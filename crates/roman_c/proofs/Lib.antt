@@ -1,3 +1,3 @@
 pub mod Common
-pub mod PlaceLemmas
+pub mod JobLemmas
 mod Values

@@ -6,8 +6,10 @@ use Rattle.roman_session.specs.Answering.{next_of}
 use Rattle.roman_session.specs.declared.next.Next.{Next}
 use Rattle.roman_session.specs.declared.next.Next.TheVariants.{More, Quit}
 use Rattle.roman_c.specs.declared.content.Content.{Content}
+use Rattle.roman_c.specs.declared.events.NumberedEvent.{NumberedEvent}
 use Rattle.roman_c.specs.declared.talk.Talk.{Talk}
 use Rattle.roman_c.specs.Contents.{session_in, reply_in}
+use Rattle.roman_c.specs.Events.{event_line}
 use Rattle.roman_c.specs.Refusals.{refusal_status}
 
 -- the status of an answered line with this reply
@@ -40,3 +42,7 @@ AnswersBy line old new status = AnswersAs line (session_in old) (session_in new)
 -- the session of a handle answers this line
 abbrev pub AnswersLine : Option Content → List ℕ → Option Content → ℕ → Type 0
 AnswersLine old line new status = AnswersBy (λ s. line) old new status
+
+-- the session of a handle answers the line of an event by numbers
+abbrev pub AnswersEvent : Option Content → NumberedEvent → Option Content → ℕ → Type 0
+AnswersEvent old event new status = AnswersBy (λ s. event_line s event) old new status

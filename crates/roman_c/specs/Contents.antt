@@ -1,5 +1,6 @@
 -- What a handle holds: the texts of a shelf, or a session with its last reply.
-use Rattle.std.specs.Prelude.{ℕ, List, [], Option, None, Some}
+use Rattle.std.specs.Prelude.{◌≡◌, ◌⊎◌, ℕ, List, [], Option, None, Some}
+use Rattle.roman_io.specs.Faults.{Rose}
 use Rattle.roman_io.specs.Memory.{texts_of}
 use Rattle.roman_io.specs.Shelf.{Texts}
 use Rattle.roman_session.specs.Situations.{Situation}
@@ -15,6 +16,10 @@ texts_in _ = []
 abbrev pub missing_in : Option Content → ℕ
 missing_in (Some (content.Shelf shelf)) = shelf.missing
 missing_in _ = 0
+
+-- no text was there, or one was asked for that the shelf lacks
+abbrev pub IsMissing : Option Content → Option Content → Type 0
+IsMissing old new = (texts_in old ≡ []) ⊎ Rose (missing_in old) (missing_in new)
 
 -- the open session, if there is one
 abbrev pub session_in : Option Content → Option Situation

@@ -7,7 +7,7 @@ use Rattle.roman_rules.specs.Bits.{HasBits}
 use Rattle.roman_session.specs.Situations.{Situation, present_system}
 use Rattle.roman_session.specs.declared.phase.Phase.{Phase}
 use Rattle.roman_session.specs.declared.phase.Phase.TheVariants.{Idle, Offered, Delegated}
-use Rattle.roman_c.specs.Asks.{numbered_name, numbered_names}
+use Rattle.roman_c.specs.Events.{numbered_name, numbered_names}
 use Rattle.roman_c.specs.declared.names.Kind.{Kind}
 use Rattle.roman_c.specs.declared.names.Kind.TheVariants as kind
 

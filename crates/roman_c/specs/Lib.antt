@@ -1,8 +1,9 @@
-pub mod Answers
-pub mod Asks
 pub mod Contents
+pub mod Events
+pub mod Answers
 pub mod Copies
 pub mod Figures
+pub mod Jobs
 pub mod Openings
 pub mod Owned
 pub mod Refusals

@@ -1,13 +1,14 @@
 //! What a handle holds.
 ghost use Rattle.std.specs.Prelude.{◌≡◌, ◌≢◌, ◌⊎◌, ◌∷◌, ◌<◌, [], None, Some, length, drop, option_copied};
 ghost use Rattle.roman_io.specs.Faults.{Rose};
-ghost use Rattle.roman_c.specs.Answers.{AnswersBy, AnswersLine};
-ghost use Rattle.roman_c.specs.Asks.{ask_line, join_line};
-ghost use Rattle.roman_c.specs.Contents.{missing_in, reply_in, session_in, texts_in};
+ghost use Rattle.roman_c.specs.Answers.{AnswersEvent, AnswersLine};
+ghost use Rattle.roman_c.specs.Contents.{missing_in, reply_in, session_in, texts_in, IsMissing};
 ghost use Rattle.roman_c.specs.Copies.{IsBeginning};
+ghost use Rattle.roman_c.specs.Jobs.{HasDone, IsJobNumber, job_of};
 ghost use Rattle.roman_c.specs.Openings.{IsOpeningStatus, OpensStart, TellsLimit, TellsRefusal};
 
-use crate::asks::Ask;
+use crate::events::NumberedEvent;
+use crate::jobs::work;
 use crate::opening::{Begun, begin};
 use crate::shelf::{TextShelf, copy_prefix};
 use crate::talk::{Reply, Talk};
@@ -55,13 +56,47 @@ impl Content {
         ensures among { IsOpeningStatus result.status }
         ensures ok { result.status ≡ 0 → OpensStart (texts_in (Some self.old)) name.now result.talk.session }
         ensures none { result.status ≢ 0 → result.talk.session ≡ None }
-        ensures refused { result.status ≡ 3 → TellsRefusal (texts_in (Some self.old)) name.now result.talk.reply.bytes.items }
-        ensures limit { result.status ≡ 4 → TellsLimit (texts_in (Some self.old)) name.now result.talk.reply.bytes.items }
-        ensures missing { result.status ≡ 5 → (texts_in (Some self.old) ≡ []) ⊎ Rose (missing_in (Some self.old)) (missing_in (Some self.new)) }
+        ensures refused { result.status ≡ 3 → TellsRefusal (texts_in (Some self.old)) name.now
+            result.talk.reply.bytes.items }
+        ensures limit { result.status ≡ 4 → TellsLimit (texts_in (Some self.old)) name.now
+            result.talk.reply.bytes.items }
+        ensures missing { result.status ≡ 5 → (texts_in (Some self.old) ≡ [])
+            ⊎ Rose (missing_in (Some self.old)) (missing_in (Some self.new)) }
         ensures texts { texts_in (Some self.new) ≡ texts_in (Some self.old) }
     {
         match self {
             Content::Shelf(shelf) => begin::<L>(alloc, shelf, name, blank),
+            Content::Talk(_) => Begun {
+                talk: Talk {
+                    session: None,
+                    reply: Reply::new(alloc),
+                },
+                status: 5,
+            },
+        }
+    }
+
+    /// Does a job on a document of a shelf. Returns the status of `roman_synth` or `roman_check`.
+    pub(crate) fn work<L: Ledger>(
+        &mut self,
+        alloc: Global,
+        name: &str,
+        certificate: Option<&str>,
+        blank: Blank,
+    ) -> Begun
+        requires name { blank.name ≡ L.name }
+        requires parts { blank.parts ≡ L.parts }
+        requires some { 0 < L.parts }
+        ensures among { IsJobNumber result.status }
+        ensures none { result.talk.session ≡ None }
+        ensures done { let texts = texts_in (Some self.old) in
+            HasDone (job_of (option_copied certificate.entry)) texts name.now
+            result.talk.reply.bytes.items result.status }
+        ensures missing { result.status ≡ 5 → IsMissing (Some self.old) (Some self.new) }
+        ensures texts { texts_in (Some self.new) ≡ texts_in (Some self.old) }
+    {
+        match self {
+            Content::Shelf(shelf) => work::<L>(alloc, shelf, name, certificate, blank),
             Content::Talk(_) => Begun {
                 talk: Talk {
                     session: None,
@@ -83,21 +118,11 @@ impl Content {
     }
 
     /// Answers the line of an event by numbers.
-    pub(crate) fn ask(&mut self, ask: Ask) -> u32
-        ensures { AnswersBy (λ s. ask_line s ask) (Some self.old) (Some self.new) result }
+    pub(crate) fn answer_event(&mut self, event: NumberedEvent<'_>) -> u32
+        ensures { AnswersEvent (Some self.old) event.entry (Some self.new) result }
     {
         match self {
-            Content::Talk(talk) => talk.ask(ask),
-            Content::Shelf(_) => 2,
-        }
-    }
-
-    /// Answers the line by which a service joins.
-    pub(crate) fn join(&mut self, name: &[u8], behaviour: u32, state: u32, loose: bool) -> u32
-        ensures { AnswersBy (λ s. join_line s name.now behaviour state loose) (Some self.old) (Some self.new) result }
-    {
-        match self {
-            Content::Talk(talk) => talk.join(name, behaviour, state, loose),
+            Content::Talk(talk) => talk.answer_event(event),
             Content::Shelf(_) => 2,
         }
     }

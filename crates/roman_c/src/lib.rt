@@ -6,17 +6,19 @@
 //! holds, `specs/Openings` what opening a document leaves in it, and `specs/Answers` what a line does.
 #![tactic(auto)]
 
-ghost use Rattle.std.specs.Prelude.{◌≡◌, ◌≢◌, ◌<◌, ◌⊎◌, ◌∷◌, List, ℕ, [], None, length, drop, take, min};
+ghost use Rattle.std.specs.Prelude.{◌≡◌, ◌≢◌, ◌<◌, ◌⊎◌, ◌∷◌, List, ℕ, [], None, length, drop, take, min, option_copied};
 ghost use Rattle.roman_io.specs.Faults.{Rose};
-ghost use Rattle.roman_c.specs.Answers.{AnswersBy, AnswersLine};
-ghost use Rattle.roman_c.specs.Asks.{ask_line, join_line};
-ghost use Rattle.roman_c.specs.Contents.{missing_in, reply_in, session_in, texts_in};
+ghost use Rattle.roman_top.specs.Command.{Synth, Check};
+ghost use Rattle.roman_c.specs.Answers.{AnswersBy, AnswersEvent, AnswersLine};
+ghost use Rattle.roman_c.specs.Events.{join_line};
+ghost use Rattle.roman_c.specs.Contents.{missing_in, reply_in, session_in, texts_in, IsMissing};
 ghost use Rattle.roman_c.specs.Copies.{CopiesAll, IsBeginning};
 ghost use Rattle.roman_c.specs.Figures.{HaveOffered, by_kind, find_number, kind_from, session_name, no_number, figure_of, phase_number, numbered_state};
+ghost use Rattle.roman_c.specs.Jobs.{HasDoneIn, IsJobNumber, job_of};
 ghost use Rattle.roman_c.specs.Openings.{IsOpeningStatus, OpensStart, TellsLimit, TellsRefusal};
 
-use asks::Ask;
 use content::Content;
+use events::NumberedEvent;
 use names::{NO_NUMBER, find, kind_from, name_of, state_of};
 use offered::{offered_bits, phase_number};
 use shelf::copy_all;
@@ -24,9 +26,10 @@ use std::alloc::Global;
 use std::marker::Brand;
 use std::sync::ledger::{Blank, Ledger};
 
-mod asks;
 mod content;
+mod events;
 mod held;
+mod jobs;
 mod loose;
 mod names;
 mod offered;
@@ -81,7 +84,8 @@ pub extern "C" fn roman_open(
     ensures none { result ≢ 0 → session_in session.new.value ≡ None }
     ensures refused { result ≡ 3 → TellsRefusal (texts_in shelf.old.value) name.now (reply_in session.new.value) }
     ensures limit { result ≡ 4 → TellsLimit (texts_in shelf.old.value) name.now (reply_in session.new.value) }
-    ensures missing { result ≡ 5 → (texts_in shelf.old.value ≡ []) ⊎ Rose (missing_in shelf.old.value) (missing_in shelf.new.value) }
+    ensures missing { result ≡ 5 → (texts_in shelf.old.value ≡ [])
+        ⊎ Rose (missing_in shelf.old.value) (missing_in shelf.new.value) }
     ensures texts { texts_in shelf.new.value ≡ texts_in shelf.old.value }
 {
     opened::<Brand>(alloc, session, shelf, name, Blank::new(1))
@@ -103,7 +107,8 @@ fn opened<L: Ledger>(
     ensures none { result ≢ 0 → session_in session.new.value ≡ None }
     ensures refused { result ≡ 3 → TellsRefusal (texts_in shelf.old.value) name.now (reply_in session.new.value) }
     ensures limit { result ≡ 4 → TellsLimit (texts_in shelf.old.value) name.now (reply_in session.new.value) }
-    ensures missing { result ≡ 5 → (texts_in shelf.old.value ≡ []) ⊎ Rose (missing_in shelf.old.value) (missing_in shelf.new.value) }
+    ensures missing { result ≡ 5 → (texts_in shelf.old.value ≡ [])
+        ⊎ Rose (missing_in shelf.old.value) (missing_in shelf.new.value) }
     ensures texts { texts_in shelf.new.value ≡ texts_in shelf.old.value }
 {
     let _ = session.take(alloc);
@@ -117,6 +122,94 @@ fn opened<L: Ledger>(
     shelf.put(texts);
     match session.hold(alloc, Content::Talk(begun.talk)) {
         Ok(()) => begun.status,
+        Err(_) => 9,
+    }
+}
+
+/// Reports on the system document of that name on the shelf, as `roman synth` does, and closes the session that
+/// was open. The reply is the report.
+///
+/// 0: the start pair is related; 1: it isn't; 3, 4, 5, 9 and 10 as of [`roman_open`], with its replies. At 9 the
+/// reply is a prefix of the text.
+#[unsafe(no_mangle)]
+pub extern "C" fn roman_synth(
+    alloc: Global,
+    session: &mut Held,
+    shelf: &mut Held,
+    name: &[u8],
+) -> u32
+    ensures among { IsJobNumber result }
+    ensures none { session_in session.new.value ≡ None }
+    ensures done { HasDoneIn Synth shelf.old.value name.now session.new.value result }
+    ensures missing { result ≡ 5 → IsMissing shelf.old.value shelf.new.value }
+    ensures texts { texts_in shelf.new.value ≡ texts_in shelf.old.value }
+{
+    worked::<Brand>(alloc, session, shelf, name, None, Blank::new(1))
+}
+
+/// Checks the certificate of that name on the shelf for the system document of that name, as `roman check` does,
+/// and closes the session that was open. The reply is the verdict.
+///
+/// 0: the certificate is right and complete; 1: it is rejected; 8: it is too long; 3, 4, 5, 9 and 10 as of
+/// [`roman_synth`].
+#[unsafe(no_mangle)]
+pub extern "C" fn roman_check(
+    alloc: Global,
+    session: &mut Held,
+    shelf: &mut Held,
+    name: &[u8],
+    certificate: &[u8],
+) -> u32
+    ensures among { IsJobNumber result }
+    ensures none { session_in session.new.value ≡ None }
+    ensures done { HasDoneIn (Check certificate.now) shelf.old.value name.now session.new.value result }
+    ensures missing { result ≡ 5 → IsMissing shelf.old.value shelf.new.value }
+    ensures texts { texts_in shelf.new.value ≡ texts_in shelf.old.value }
+{
+    let Ok(certificate) = str::from_utf8(certificate) else {
+        let _ = session.take(alloc);
+        return 10;
+    };
+    worked::<Brand>(
+        alloc,
+        session,
+        shelf,
+        name,
+        Some(certificate),
+        Blank::new(1),
+    )
+}
+
+/// Does a job as [`roman_synth`] and [`roman_check`] do, with a counter of steps on `blank`.
+fn worked<L: Ledger>(
+    alloc: Global,
+    session: &mut Held,
+    shelf: &mut Held,
+    name: &[u8],
+    certificate: Option<&str>,
+    blank: Blank,
+) -> u32
+    requires name { blank.name ≡ L.name }
+    requires parts { blank.parts ≡ L.parts }
+    requires some { 0 < L.parts }
+    ensures among { IsJobNumber result }
+    ensures none { session_in session.new.value ≡ None }
+    ensures done { let job = job_of (option_copied certificate.entry) in
+        HasDoneIn job shelf.old.value name.now session.new.value result }
+    ensures missing { result ≡ 5 → IsMissing shelf.old.value shelf.new.value }
+    ensures texts { texts_in shelf.new.value ≡ texts_in shelf.old.value }
+{
+    let _ = session.take(alloc);
+    let Ok(name) = str::from_utf8(name) else {
+        return 10;
+    };
+    let Some(mut texts) = shelf.take(alloc) else {
+        return 5;
+    };
+    let done = texts.work::<L>(alloc, name, certificate, blank);
+    shelf.put(texts);
+    match session.hold(alloc, Content::Talk(done.talk)) {
+        Ok(()) => done.status,
         Err(_) => 9,
     }
 }
@@ -141,13 +234,13 @@ pub extern "C" fn roman_answer(alloc: Global, session: &mut Held, line: &[u8]) -
 }
 
 /// Answers the line of an event by numbers.
-fn asked(alloc: Global, session: &mut Held, ask: Ask) -> u32
-    ensures { AnswersBy (λ s. ask_line s ask) session.old.value session.new.value result }
+fn answer_event(alloc: Global, session: &mut Held, event: NumberedEvent<'_>) -> u32
+    ensures { AnswersEvent session.old.value event.entry session.new.value result }
 {
     match session.take(alloc) {
         None => 2,
         Some(mut content) => {
-            let status = content.ask(ask);
+            let status = content.answer_event(event);
             session.put(content);
             status
         }
@@ -158,66 +251,66 @@ fn asked(alloc: Global, session: &mut Held, ask: Ask) -> u32
 /// so is the reply. A number that nothing has counts as an unknown name.
 #[unsafe(no_mangle)]
 pub extern "C" fn roman_request(alloc: Global, session: &mut Held, action: u32) -> u32
-    ensures { AnswersBy (λ s. ask_line s (Ask.Request action)) session.old.value session.new.value result }
+    ensures { AnswersEvent session.old.value (NumberedEvent.Request action) session.new.value result }
 {
-    asked(alloc, session, Ask::Request(action))
+    answer_event(alloc, session, NumberedEvent::Request(action))
 }
 
 /// Delegates the request to the service at that place, as `use` does by its name.
 #[unsafe(no_mangle)]
 pub extern "C" fn roman_delegate(alloc: Global, session: &mut Held, service: u32) -> u32
-    ensures { AnswersBy (λ s. ask_line s (Ask.Delegate service)) session.old.value session.new.value result }
+    ensures { AnswersEvent session.old.value (NumberedEvent.Delegate service) session.new.value result }
 {
-    asked(alloc, session, Ask::Delegate(service))
+    answer_event(alloc, session, NumberedEvent::Delegate(service))
 }
 
 /// Reports the state of the service to which the request is delegated, and that of the environment, as `saw`
 /// does by their names.
 #[unsafe(no_mangle)]
 pub extern "C" fn roman_observe(alloc: Global, session: &mut Held, state: u32, env: u32) -> u32
-    ensures { AnswersBy (λ s. ask_line s (Ask.Observe state env)) session.old.value session.new.value result }
+    ensures { AnswersEvent session.old.value (NumberedEvent.Observe state env) session.new.value result }
 {
-    asked(alloc, session, Ask::Observe(state, env))
+    answer_event(alloc, session, NumberedEvent::Observe(state, env))
 }
 
 /// Freezes the service at that place, as `freeze` does by its name.
 #[unsafe(no_mangle)]
 pub extern "C" fn roman_freeze(alloc: Global, session: &mut Held, service: u32) -> u32
-    ensures { AnswersBy (λ s. ask_line s (Ask.Freeze service)) session.old.value session.new.value result }
+    ensures { AnswersEvent session.old.value (NumberedEvent.Freeze service) session.new.value result }
 {
-    asked(alloc, session, Ask::Freeze(service))
+    answer_event(alloc, session, NumberedEvent::Freeze(service))
 }
 
 /// Makes the service at that place ready, as `thaw` does by its name.
 #[unsafe(no_mangle)]
 pub extern "C" fn roman_thaw(alloc: Global, session: &mut Held, service: u32) -> u32
-    ensures { AnswersBy (λ s. ask_line s (Ask.Thaw service)) session.old.value session.new.value result }
+    ensures { AnswersEvent session.old.value (NumberedEvent.Thaw service) session.new.value result }
 {
-    asked(alloc, session, Ask::Thaw(service))
+    answer_event(alloc, session, NumberedEvent::Thaw(service))
 }
 
 /// Removes the service at that place, as `die` does by its name. Each later service moves down by one place.
 #[unsafe(no_mangle)]
 pub extern "C" fn roman_die(alloc: Global, session: &mut Held, service: u32) -> u32
-    ensures { AnswersBy (λ s. ask_line s (Ask.Die service)) session.old.value session.new.value result }
+    ensures { AnswersEvent session.old.value (NumberedEvent.Die service) session.new.value result }
 {
-    asked(alloc, session, Ask::Die(service))
+    answer_event(alloc, session, NumberedEvent::Die(service))
 }
 
 /// Moves the service at that place to a state, as `jump` does by their names.
 #[unsafe(no_mangle)]
 pub extern "C" fn roman_jump(alloc: Global, session: &mut Held, service: u32, state: u32) -> u32
-    ensures { AnswersBy (λ s. ask_line s (Ask.Jump service state)) session.old.value session.new.value result }
+    ensures { AnswersEvent session.old.value (NumberedEvent.Jump service state) session.new.value result }
 {
-    asked(alloc, session, Ask::Jump(service, state))
+    answer_event(alloc, session, NumberedEvent::Jump(service, state))
 }
 
 /// Moves the environment to a state, as `jumpenv` does by its name.
 #[unsafe(no_mangle)]
 pub extern "C" fn roman_jump_env(alloc: Global, session: &mut Held, env: u32) -> u32
-    ensures { AnswersBy (λ s. ask_line s (Ask.JumpEnv env)) session.old.value session.new.value result }
+    ensures { AnswersEvent session.old.value (NumberedEvent.JumpEnv env) session.new.value result }
 {
-    asked(alloc, session, Ask::JumpEnv(env))
+    answer_event(alloc, session, NumberedEvent::JumpEnv(env))
 }
 
 /// Adds a service with that name, behaviour and state in the last place, as `join` does. With `loose` its
@@ -233,14 +326,13 @@ pub extern "C" fn roman_join(
 ) -> u32
     ensures { AnswersBy (λ s. join_line s name.now behaviour state loose) session.old.value session.new.value result }
 {
-    match session.take(alloc) {
-        None => 2,
-        Some(mut content) => {
-            let status = content.join(name, behaviour, state, loose);
-            session.put(content);
-            status
-        }
-    }
+    let event = NumberedEvent::Join {
+        name,
+        behaviour,
+        state,
+        loose,
+    };
+    answer_event(alloc, session, event)
 }
 
 /// Returns the services that are offered for the open request: bit `k` is 1 exactly if the service at place
@@ -273,7 +365,8 @@ pub extern "C" fn roman_find(
     name: &[u8],
 ) -> u32
     ensures same { session.new.value ≡ session.old.value }
-    ensures number { result ≡ by_kind (kind_from kind of) no_number (λ k. figure_of (find_number k name.now) (session_in session.old.value)) }
+    ensures number { result ≡ by_kind (kind_from kind of) no_number
+        (λ k. figure_of (find_number k name.now) (session_in session.old.value)) }
 {
     let Some(kind) = kind_from(kind, of) else {
         return NO_NUMBER;
@@ -303,7 +396,8 @@ pub extern "C" fn roman_name(
     into: &mut [u8],
 ) -> usize
     ensures same { session.new.value ≡ session.old.value }
-    ensures copies { CopiesAll (by_kind (kind_from kind of) [] (λ k. session_name k number (session_in session.old.value))) into.new result }
+    ensures copies { CopiesAll (by_kind (kind_from kind of) []
+        (λ k. session_name k number (session_in session.old.value))) into.new result }
 {
     let Some(kind) = kind_from(kind, of) else {
         return 0;
@@ -326,7 +420,8 @@ pub extern "C" fn roman_name(
 #[unsafe(no_mangle)]
 pub extern "C" fn roman_state(alloc: Global, session: &mut Held, kind: u32, of: u32) -> u32
     ensures same { session.new.value ≡ session.old.value }
-    ensures state { result ≡ by_kind (kind_from kind of) no_number (λ k. figure_of (λ s. numbered_state s k) (session_in session.old.value)) }
+    ensures state { result ≡ by_kind (kind_from kind of) no_number
+        (λ k. figure_of (λ s. numbered_state s k) (session_in session.old.value)) }
 {
     let Some(kind) = kind_from(kind, of) else {
         return NO_NUMBER;

@@ -3,7 +3,7 @@ ghost use Rattle.std.specs.Prelude.{◌≡◌, ◌≤◌, ◌<◌, [], length, m
 ghost use Rattle.roman_joint.specs.Names.{beh_name, names_in, seat_name, states_of_behaviour};
 ghost use Rattle.roman_model.specs.Explanation.{seat_names};
 ghost use Rattle.roman_read.specs.Names.{place_of};
-ghost use Rattle.roman_c.specs.Asks.{numbered_name};
+ghost use Rattle.roman_c.specs.Events.{numbered_name};
 ghost use Rattle.roman_c.specs.Figures.{find_number, kind_from, no_number, numbered_state};
 
 use roman_joint::Joint;
@@ -103,7 +103,8 @@ pub(crate) fn state_of(session: &Session, kind: Kind) -> u32
 
 /// Returns the present state of the service at that place, or `NO_NUMBER`.
 fn service_state(session: &Session, service: u32) -> u32
-    ensures { result ≡ (if nat_lt service (length session.now.parts.seats) then slice_index session.now.here.bs service else no_number) }
+    ensures { result ≡ (if nat_lt service (length session.now.parts.seats) then slice_index session.now.here.bs
+        service else no_number) }
 {
     if service < u32::from(session.joint().seats()) {
         u32::from(session.state(service as u8))

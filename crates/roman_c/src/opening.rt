@@ -31,8 +31,10 @@ pub(crate) fn begin<L: Ledger>(
     ensures among { IsOpeningStatus result.status }
     ensures ok { result.status ≡ 0 → OpensStart (texts_of shelf.old.files.items) name.now result.talk.session }
     ensures none { result.status ≢ 0 → result.talk.session ≡ None }
-    ensures refused { result.status ≡ 3 → TellsRefusal (texts_of shelf.old.files.items) name.now result.talk.reply.bytes.items }
-    ensures limit { result.status ≡ 4 → TellsLimit (texts_of shelf.old.files.items) name.now result.talk.reply.bytes.items }
+    ensures refused { result.status ≡ 3 → TellsRefusal (texts_of shelf.old.files.items) name.now
+        result.talk.reply.bytes.items }
+    ensures limit { result.status ≡ 4 → TellsLimit (texts_of shelf.old.files.items) name.now
+        result.talk.reply.bytes.items }
     ensures missing { result.status ≡ 5 → Rose shelf.old.missing shelf.new.missing }
     ensures texts { texts_of shelf.new.files.items ≡ texts_of shelf.old.files.items }
 {

@@ -30,7 +30,8 @@ impl TextShelf {
 
     /// Adds a text. Fails only when out of memory, and then leaves the shelf as it was.
     pub(crate) fn add(&mut self, alloc: Global, name: &str, text: &[u8]) -> Result<(), AllocError>
-        ensures ok { OnOk result (texts_of self.new.files.items ≡ (name.now, text.now) ∷ texts_of self.old.files.items) }
+        ensures ok { OnOk result (texts_of self.new.files.items
+            ≡ (name.now, text.now) ∷ texts_of self.old.files.items) }
         ensures err { OnErr result (texts_of self.new.files.items ≡ texts_of self.old.files.items) }
         ensures missing { self.new.missing ≡ self.old.missing }
     {
@@ -49,7 +50,8 @@ impl Shelf for TextShelf {
 
     fn fetch(&mut self, name: &str, at: u64, into: &mut [u8]) -> Result<usize, Failed>
         ensures bound { IfOk result (λ n. n ≤ length into.new) }
-        ensures bytes { IfSome (Some (texts_of self.old.files.items)) (λ ts. IfOk result (Fetches (shelf_text ts name.now) at into.new)) }
+        ensures bytes { IfSome (Some (texts_of self.old.files.items))
+            (λ ts. IfOk result (Fetches (shelf_text ts name.now) at into.new)) }
         ensures texts { Some (texts_of self.new.files.items) ≡ Some (texts_of self.old.files.items) }
         ensures cause { HasCause self.old.missing self.new.missing result }
     {

@@ -3,9 +3,9 @@ ghost use Rattle.std.specs.Prelude.{◌≡◌, ◌<◌, [], Some};
 ghost use Rattle.roman_io.specs.Faults.{HasCause};
 ghost use Rattle.roman_io.specs.Sink.{Puts};
 ghost use Rattle.roman_c.specs.Answers.{StepsTo, TalkAnswers};
-ghost use Rattle.roman_c.specs.Asks.{ask_line, join_line};
+ghost use Rattle.roman_c.specs.Events.{event_line};
 
-use crate::asks::{Ask, ask_line, join_line};
+use crate::events::{NumberedEvent, event_line};
 use crate::refusals::refusal_status;
 use roman_io::{Failed, Sink, Steps};
 use roman_session::{Next, Session};
@@ -71,24 +71,13 @@ impl Talk {
     }
 
     /// Answers the line of an event by numbers.
-    pub(crate) fn ask(&mut self, ask: Ask) -> u32
-        ensures { TalkAnswers self.old (λ s. ask_line s ask) self.new result }
+    pub(crate) fn answer_event(&mut self, event: NumberedEvent<'_>) -> u32
+        ensures { TalkAnswers self.old (λ s. event_line s event.entry) self.new result }
     {
         let Some(session) = &mut self.session else {
             return 2;
         };
-        let line = ask_line(session, ask);
-        answer(session, &mut self.reply, line.bytes())
-    }
-
-    /// Answers the line by which a service joins.
-    pub(crate) fn join(&mut self, name: &[u8], behaviour: u32, state: u32, loose: bool) -> u32
-        ensures { TalkAnswers self.old (λ s. join_line s name.now behaviour state loose) self.new result }
-    {
-        let Some(session) = &mut self.session else {
-            return 2;
-        };
-        let line = join_line(session, name, behaviour, state, loose);
+        let line = event_line(session, event);
         answer(session, &mut self.reply, line.bytes())
     }
 }

@@ -1,5 +1,5 @@
 -- The parts of a certificate, and its verdict.
-use Rattle.roman_cert.proofs.Common.{Act, AreNumbers, in_map, written_is_greatest, Entry, Err, List, Ok, OnOk, Option, Result, [], ap, append_assoc, arith, codes, decimal, inl, inr, map, mul-le-mul, refl, subst, sym, ℕ, ◌%◌, ◌*◌, ◌++◌, ◌+◌, ◌/◌, ◌<◌, ◌∙◌, ◌∷◌, ◌≡◌, ◌≤◌, Gathers, IsCompleteList, count, entry_at, pair_at, sizes_of, IsIn, product_of, IsNamedSys, NamedSys, system_of, IsPair, IsSys, Seat, Sys, IsWithinCells, cert_text, count_line, end_line, entry_line, head_line, reason_text, Puts, Reason, WroteGreatest, as_entry, decimal_digit, decimal_pair, decimal_two, pair, div-lt_iff_lt-mul, flat_map-append, flat_map-map, text_of_lines, with_newline}
+use Rattle.roman_cert.proofs.Common.{Act, AreNumbers, in_map, written_is_greatest, Entry, Err, List, Ok, OnOk, Option, Result, [], ap, append_assoc, arith, codes, decimal, map, subst, sym, ℕ, ◌%◌, ◌*◌, ◌++◌, ◌+◌, ◌/◌, ◌<◌, ◌∙◌, ◌∷◌, ◌≡◌, ◌≤◌, Gathers, IsCompleteList, count, entry_at, sizes_of, IsNamedSys, NamedSys, system_of, IsSys, Sys, IsWithinCells, cert_text, count_line, end_line, entry_line, head_line, reason_text, Puts, Reason, WroteGreatest, as_entry, decimal_digit, decimal_pair, decimal_two, pair, flat_map-append, flat_map-map, text_of_lines, with_newline, pair_number}
 use Rattle.roman_cert.proofs.Rests.{rest_of}
 
 -- the line of an entry, with its newline
@@ -36,22 +36,6 @@ action_pushed old new held after pair a reason text result is said g =
     subst (λ (line : List ℕ). Gathers old new after (held ++ line) result) (line_said pair reason text (ap reason_text is ∙ said)) g
 
 -- The verdict of a checker
-
--- each seat has states
-seats_positive : (seats : List Seat) → ((x : Seat) → IsIn x seats → 0 < x.beh.states) → 0 < product_of (map (λ x. x.beh.states) seats)
-seats_positive [] have = omega arith
-seats_positive (x ∷ seats) have =
-    let rest : 0 < product_of (map (λ x. x.beh.states) seats) = seats_positive seats (λ y i. have y (inr i)) in
-    let product : 1 * 1 ≤ x.beh.states * product_of (map (λ x. x.beh.states) seats) = mul-le-mul (have x (inl refl)) rest in
-    omega arith
-
--- the number of a pair of the system is below their count
-pair_number : (s : Sys) (i : ℕ) → IsSys s → IsPair s (pair_at (sizes_of s) i) → i < count (sizes_of s)
-pair_number s i sys pair =
-    let seats : 0 < product_of (sizes_of s).seats = seats_positive s.seats (λ x j. (sys.seats x j).states.0) in
-    let target : i / product_of (sizes_of s).seats / s.env.states < s.target.states = pair.t in
-    let row : i / product_of (sizes_of s).seats < s.target.states * s.env.states = (div-lt_iff_lt-mul sys.env.states.0).0 target in
-    (div-lt_iff_lt-mul seats).0 row
 
 -- the entries of a complete list are of numbers of pairs
 pub complete_numbers : (s : Sys) (L : List (Entry ℕ)) → IsSys s → IsCompleteList s L → AreNumbers s L

@@ -1,12 +1,14 @@
 -- The texts of an explanation, for entries and lists over the numbers of pairs.
-use Rattle.std.specs.Prelude.{ℕ, List, [], ◌∷◌, ◌++◌, map, if◌then◌else◌}
+use Rattle.std.specs.Prelude.{◌≡◌, ℕ, List, Some, [], ◌∷◌, ◌++◌, map, slice_get, if◌then◌else◌}
 use Rattle.roman_model.specs.Lines.{text_of_lines}
 use Rattle.roman_model.specs.Arena.{Entry}
 use Rattle.roman_model.specs.Numbers.{sizes_of, pair_at, entry_at}
+use Rattle.roman_model.specs.declared.reason.Reason.{Reason}
 use Rattle.roman_model.specs.Explanation.{lost_line, answer_lines}
 use Rattle.roman_joint.specs.NamedSys.{NamedSys, system_of}
 use Rattle.roman_joint.specs.Names.{names_in}
-use Rattle.roman_order.specs.Board.{Board, is_marked}
+use Rattle.roman_order.specs.Board.{Board, as_entry, is_marked}
+use Rattle.roman_cert.specs.declared.slice.Placed.{Placed}
 
 -- the line that says which pair is lost, and why
 unfoldable pub lost_text : NamedSys → Entry ℕ → List ℕ
@@ -25,3 +27,7 @@ entry_text n L x = lost_text n x ++ answers_text n L x
 -- the lines of an entry of the order's list, or none where its pair isn't marked
 unfoldable pub marked_text : NamedSys → Board → Entry ℕ → List ℕ
 marked_text n board x = if is_marked board x.node then entry_text n board.list x else []
+
+-- the entry stands at its place of the list, with this reason
+abbrev pub StandsIn : List (Entry ℕ) → Placed → Reason → Type 0
+StandsIn L entry reason = slice_get L entry.place ≡ Some (as_entry (entry.pair, reason))

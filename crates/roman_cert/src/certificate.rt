@@ -38,8 +38,7 @@ pub fn write_order<O: Sink>(relation: &Relation, out: &mut O) -> Result<(), Fail
 
 /// Writes the certificate of a list, in a system of `pairs` pairs.
 pub(crate) fn write_list<O: Sink>(pairs: u32, order: &Order, out: &mut O) -> Result<(), Failed>
-    ensures text { Puts (O.written out.old) (O.written out.new)
-        (cert_text pairs order.now.list) result }
+    ensures text { Puts (O.written out.old) (O.written out.new) (cert_text pairs order.now.list) result }
     ensures cause { HasCause (O.faults out.old) (O.faults out.new) result }
 {
     let mut page = Page::new();
@@ -48,7 +47,7 @@ pub(crate) fn write_list<O: Sink>(pairs: u32, order: &Order, out: &mut O) -> Res
     let mut template = Template::new();
     let mut ahead = Ahead::nothing(0);
     for i in 0..order.len() {
-        let (pair, reason) = order.walk(i, &mut ahead);
+        let (pair, reason) = order.read_on(i, &mut ahead);
         push_entry(pair, reason, &mut template, &mut page, out)?;
     }
     finish(&mut page, out)

@@ -6,13 +6,11 @@ ghost use Rattle.roman_io.specs.Sink.{Puts};
 ghost use Rattle.roman_text.specs.Pages.{Gathers};
 ghost use Rattle.roman_model.specs.Explanation.{name_at, seat_names, reason_name, answer_line};
 ghost use Rattle.roman_model.specs.Lines.{text_of_lines};
-ghost use Rattle.roman_model.specs.Numbers.{sizes_of, count, pair_at};
-ghost use Rattle.roman_joint.specs.NamedSys.{system_of};
 ghost use Rattle.roman_joint.specs.Names.{names_in};
-ghost use Rattle.roman_rules.specs.Asked.{IsReasonOf};
+ghost use Rattle.roman_rules.specs.Probes.{IsReasonOf};
 ghost use Rattle.roman_order.specs.Board.{as_entry};
-ghost use Rattle.roman_relation.specs.Greatest.{arena_of};
 ghost use Rattle.roman_cert.specs.Slices.{lost_text};
+ghost use Rattle.roman_joint.specs.Pairs.{joint_pairs, joint_pair, arena_of};
 
 use roman_io::{Failed, Sink};
 use roman_joint::Joint;
@@ -37,7 +35,7 @@ pub(crate) fn push_lost<O: Sink>(
     page: &mut Page,
     out: &mut O,
 ) -> Result<(), Failed>
-    requires pair { p < count (sizes_of (system_of joint.now)) }
+    requires pair { p < joint_pairs joint.now }
     requires reason { IsReasonOf (arena_of joint.now) reason }
     ensures gathers { Gathers (O.written out.old) (O.written out.new) page.new
         (page.old ++ lost_text joint.now (as_entry (p, reason))) result }
@@ -55,8 +53,8 @@ pub(crate) fn push_lost<O: Sink>(
 
 /// Returns the beginning of a pair's line: the states of the target and the environment.
 fn parts_piece(joint: &Joint, p: u32) -> Piece
-    requires { p < count (sizes_of (system_of joint.now)) }
-    ensures { let q = pair_at (sizes_of (system_of joint.now)) p in
+    requires { p < joint_pairs joint.now }
+    ensures { let q = joint_pair joint.now p in
         result ≡ codes "lost " ++ name_at (names_in joint.now).target q.t
         ++ 32 ∷ name_at (names_in joint.now).env q.e }
 {
@@ -68,9 +66,9 @@ fn parts_piece(joint: &Joint, p: u32) -> Piece
 
 /// Returns the part of a pair's line that names the state of the service at place `k`.
 fn state_piece(joint: &Joint, p: u32, k: u8) -> Piece
-    requires pair { p < count (sizes_of (system_of joint.now)) }
+    requires pair { p < joint_pairs joint.now }
     requires seat { k < length joint.now.seats }
-    ensures { let q = pair_at (sizes_of (system_of joint.now)) p in
+    ensures { let q = joint_pair joint.now p in
         result ≡ 32 ∷ name_at (seat_names (names_in joint.now) k).states (slice_index q.bs k) }
 {
     let state = joint.shape().part_of(p, k);
@@ -93,8 +91,8 @@ fn reason_piece(joint: &Joint, reason: Reason) -> Piece
 /// cannot.
 pub(crate) fn answer_piece(joint: &Joint, k: u8, answer: Option<u32>) -> Piece
     requires seat { k < length joint.now.seats }
-    requires pair { ForSome answer (λ q. q < count (sizes_of (system_of joint.now))) }
-    ensures { let answered = option_map (pair_at (sizes_of (system_of joint.now))) answer in
+    requires pair { ForSome answer (λ q. q < joint_pairs joint.now) }
+    ensures { let answered = option_map (joint_pair joint.now) answer in
         result ≡ text_of_lines (answer_line (names_in joint.now) k answered ∷ []) }
 {
     let text = Piece::new().text(b"  ").name(joint.service_name(k));
@@ -108,8 +106,8 @@ pub(crate) fn answer_piece(joint: &Joint, k: u8, answer: Option<u32>) -> Piece
 fn add_states(text: Piece, joint: &Joint, k: u8, q: u32) -> Piece
     requires room { length text ≤ 34 }
     requires seat { k < length joint.now.seats }
-    requires pair { q < count (sizes_of (system_of joint.now)) }
-    ensures { let answered = pair_at (sizes_of (system_of joint.now)) q in
+    requires pair { q < joint_pairs joint.now }
+    ensures { let answered = joint_pair joint.now q in
         result ≡ text ++ codes " may answer "
         ++ name_at (seat_names (names_in joint.now) k).states (slice_index answered.bs k)
         ++ codes " " ++ name_at (names_in joint.now).env answered.e ++ 10 ∷ [] }

@@ -1,5 +1,5 @@
 //! Explains why a pair isn't related.
-ghost use Rattle.std.specs.Prelude.{◌≡◌, ◌<◌, ◌++◌, length, map, slice_get, codes, Some};
+ghost use Rattle.std.specs.Prelude.{◌≡◌, ◌<◌, ◌++◌, length, map, codes};
 ghost use Rattle.std.specs.List.{flat_map};
 ghost use Rattle.roman_io.specs.Faults.{HasCause};
 ghost use Rattle.roman_io.specs.Sink.{Puts};
@@ -8,13 +8,14 @@ ghost use Rattle.roman_model.specs.Arena.{IsOrder};
 ghost use Rattle.roman_model.specs.SystemArena.{arena};
 ghost use Rattle.roman_model.specs.Composition.{Great};
 ghost use Rattle.roman_model.specs.Explanation.{explanation, explain_text, ExplainedOrder};
-ghost use Rattle.roman_model.specs.Numbers.{sizes_of, count, pair_at, entry_at};
+ghost use Rattle.roman_model.specs.Numbers.{sizes_of, pair_at, entry_at};
 ghost use Rattle.roman_model.specs.Play.{OpponentWins};
 ghost use Rattle.roman_joint.specs.NamedSys.{system_of};
 ghost use Rattle.roman_joint.specs.Names.{names_in};
 ghost use Rattle.roman_order.specs.Board.{pairs_of, as_entry};
-ghost use Rattle.roman_relation.specs.Greatest.{arena_of, IsRelation};
-ghost use Rattle.roman_cert.specs.Slices.{answers_text, entry_text, marked_text};
+ghost use Rattle.roman_relation.specs.Greatest.{IsUpToDate};
+ghost use Rattle.roman_cert.specs.Slices.{answers_text, entry_text, marked_text, StandsIn};
+ghost use Rattle.roman_joint.specs.Pairs.{joint_pairs, arena_of};
 
 use crate::answers::answer;
 use crate::lines::{answer_piece, finish, push_lost};
@@ -42,10 +43,9 @@ pub fn write_slice<O: Sink, L: Ledger>(
     out: &mut O,
     steps: &mut Steps<L>,
 ) -> Result<(), Failed>
-    requires relation { IsRelation relation.old.joint relation.old.order }
-    requires pair { p < count (sizes_of (system_of relation.old.joint)) }
-    requires unrelated { let s = system_of relation.old.joint in
-        Great s (pair_at (sizes_of s) p) → ⊥ }
+    requires relation { IsUpToDate relation.old }
+    requires pair { p < joint_pairs relation.old.joint }
+    requires unrelated { let s = system_of relation.old.joint in Great s (pair_at (sizes_of s) p) → ⊥ }
     ensures text { let s = system_of relation.old.joint in
         let L = map (entry_at s) relation.old.order.list in
         Puts (O.written out.old) (O.written out.new)
@@ -56,7 +56,7 @@ pub fn write_slice<O: Sink, L: Ledger>(
         let here = pair_at (sizes_of s) p in
         let L = map (entry_at s) relation.old.order.list in
         OpponentWins s (explanation (arena s) L here) here }
-    ensures relation { IsRelation relation.new.joint relation.new.order }
+    ensures relation { IsUpToDate relation.new }
     ensures rest { relation.new ≡ record relation.old {
       order = record relation.old.order { marks = relation.new.order.marks };
     } }
@@ -88,49 +88,58 @@ fn write_marked<O: Sink, L: Ledger>(
     let mut page = Page::new();
     let mut ahead = Ahead::nothing(0);
     for i in 0..order.len() {
-        let (p, reason) = order.walk(i, &mut ahead);
+        let (p, reason) = order.read_on(i, &mut ahead);
         if !order.marked(p) {
             continue;
         }
-        push_entry(joint, order, i, p, reason, &mut page, out, steps)?;
+        let entry = Placed {
+            place: i,
+            pair: p,
+            reason,
+        };
+        push_entry(joint, order, entry, &mut page, out, steps)?;
     }
     finish(&mut page, out)
 }
 
-/// Pushes the lines of the entry at place `i`, whose pair is `p`, with this reason.
+/// An entry of the list, with its place there.
+#[derive(Clone, Copy)]
+struct Placed {
+    place: u32,
+    pair: u32,
+    reason: Reason,
+}
+
+/// Pushes the lines of an entry.
 fn push_entry<O: Sink, L: Ledger>(
     joint: &Joint,
     order: &Order,
-    i: u32,
-    p: u32,
-    reason: Reason,
+    entry: Placed,
     page: &mut Page,
     out: &mut O,
     steps: &mut Steps<L>,
 ) -> Result<(), Failed>
     requires shaped { pairs_of order.now ≡ length (arena_of joint.now).nodes }
     requires valid { IsOrder (arena_of joint.now) order.now.list }
-    requires entry { slice_get order.now.list i ≡ Some (as_entry (p, reason)) }
+    requires entry { StandsIn order.now.list entry entry.reason }
     ensures gathers { Gathers (O.written out.old) (O.written out.new) page.new
-        (page.old ++ entry_text joint.now order.now.list (as_entry (p, reason))) result }
+        (page.old ++ entry_text joint.now order.now.list (as_entry (entry.pair, entry.reason))) result }
     ensures cause { HasCause (O.faults out.old) (O.faults out.new) result }
 {
     joint.known(); // allowed actions are actions of the system
     order.known(); // listed pairs are pairs of the system
-    push_lost(joint, p, reason, page, out)?;
-    match reason {
+    push_lost(joint, entry.pair, entry.reason, page, out)?;
+    match entry.reason {
         Reason::Final => Ok(()),
-        Reason::Act(a) => push_answers(joint, order, i, p, a, page, out, steps),
+        Reason::Act(a) => push_answers(joint, order, entry, a, page, out, steps),
     }
 }
 
-/// Pushes a line for each ready service, with its answer to the entry at place `i`, whose pair is `p`
-/// and whose reason is the action `a`.
+/// Pushes a line for each ready service, with its answer to an entry whose reason is the action `a`.
 fn push_answers<O: Sink, L: Ledger>(
     joint: &Joint,
     order: &Order,
-    i: u32,
-    p: u32,
+    entry: Placed,
     a: u8,
     page: &mut Page,
     out: &mut O,
@@ -138,9 +147,9 @@ fn push_answers<O: Sink, L: Ledger>(
 ) -> Result<(), Failed>
     requires shaped { pairs_of order.now ≡ length (arena_of joint.now).nodes }
     requires valid { IsOrder (arena_of joint.now) order.now.list }
-    requires entry { slice_get order.now.list i ≡ Some (as_entry (p, Reason.Act a)) }
+    requires entry { StandsIn order.now.list entry (Reason.Act a) }
     ensures gathers { Gathers (O.written out.old) (O.written out.new) page.new
-        (page.old ++ answers_text joint.now order.now.list (as_entry (p, Reason.Act a))) result }
+        (page.old ++ answers_text joint.now order.now.list (as_entry (entry.pair, Reason.Act a))) result }
     ensures cause { HasCause (O.faults out.old) (O.faults out.new) result }
 {
     joint.known(); // the system is well formed
@@ -149,7 +158,7 @@ fn push_answers<O: Sink, L: Ledger>(
         if !joint.is_ready(k) {
             continue;
         }
-        let found = answer(joint, order, i, p, a, k, steps);
+        let found = answer(joint, order, entry.place, entry.pair, a, k, steps);
         let line = answer_piece(joint, k, found);
         page.push(line.bytes(), out)?;
     }

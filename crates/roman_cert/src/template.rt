@@ -59,7 +59,8 @@ impl Template {
         requires template { IsTemplate self.old }
         requires two { two < 100 }
         ensures template { IsTemplate self.new }
-        ensures line { take self.new.len self.new.text ≡ decimal (self.old.base + two) ++ 32 ∷ self.old.letter ∷ 10 ∷ [] }
+        ensures line { take self.new.len self.new.text
+            ≡ decimal (self.old.base + two) ++ 32 ∷ self.old.letter ∷ 10 ∷ [] }
     {
         let place = self.place;
         self.text[place] = b'0' + (two / 10) as u8;

@@ -1,5 +1,5 @@
 -- Lines that are judged by those that were read.
-use Rattle.roman_check.proofs.Common.{◌≡◌, ℕ, ◌+◌, ◌*◌, ◌<◌, ◌==◌, Bool, true, false, not, ◌||◌, List, [], ◌∷◌, ◌++◌, length, Option, Some, None, IsTrue, IsFalse, option_map, find, refl, sym, ap, ◌∙◌, subst, arith, append-nil, if◌then◌else◌, inl, inr, list_any, cons_option, or-false, cond-true, cond-false, not-true, or_left, not-false, cases_lt, list_any-append, IsIn, below, same_numbers, Arena, Entry, is_listed, is_justified, head_line, count_line, reasons, entry_of, entries_on, could_be_listed, end_line, entry_fault, end_fault, body_fault, same_numbers_is, AreFew, possible_small, entry_of-is, entry_of_other, fault_in_body, fault_after_end, entry_is_no_end, by_test, from_below, from_map, Reason, Final, Act, AreRows, IsNumbered, Audit, Nothing, Body, Head, Count, Why, Form, fault_of, IsInRows, HasListed, Judges, TakesEntry, due_after, Removes, HoldsWhereKept, IsReasonOf, filter_map-append, known_more, Due, Asked, Remaining, mul-le}
+use Rattle.roman_check.proofs.Common.{◌≡◌, ℕ, ◌+◌, ◌*◌, ◌<◌, ◌==◌, Bool, true, false, not, ◌||◌, List, [], ◌∷◌, ◌++◌, length, Option, Some, None, IsTrue, IsFalse, option_map, find, refl, sym, ap, ◌∙◌, subst, arith, append-nil, if◌then◌else◌, inl, inr, list_any, cons_option, or-false, cond-true, cond-false, not-true, or_left, not-false, cases_lt, list_any-append, IsIn, below, same_numbers, Arena, Entry, is_listed, is_justified, head_line, count_line, reasons, entry_of, entries_on, could_be_listed, end_line, entry_fault, end_fault, body_fault, same_numbers_is, AreFew, possible_small, entry_of-is, entry_of_other, fault_in_body, fault_after_end, entry_is_no_end, by_test, from_below, from_map, Reason, Final, Act, AreRows, IsNumbered, Audit, Nothing, Body, Head, Count, Why, Form, fault_of, IsInRows, HasListed, Judges, TakesEntry, due_after, Removes, HoldsWhereKnown, IsReasonOf, filter_map-append, known_more, Due, RowProbe, Remaining, mul-le}
 use Rattle.roman_model.specs.Certificate as text
 
 -- Entries
@@ -18,8 +18,8 @@ listed_more : (A : Arena ℕ) → IsNumbered A → (L : List (Entry ℕ)) (x : E
 listed_more A ok L x q = list_any-append (λ y. A.same q y.node) L (x ∷ []) ∙ ap (λ b. is_listed A L q || b) (or-false (A.same q x.node) ∙ ok.same q x.node)
 
 -- what an audit holds, by the lanes of the system
-pub listed_rows : (A : Arena ℕ) (L : List (Entry ℕ)) (left : Remaining) (asked : Asked) (lanes : ℕ) → HasListed A L left asked → left.lanes ≡ lanes → (words : List ℕ) → words ≡ left.words.items → AreRows lanes (λ q. not (is_listed A L q)) words
-listed_rows A L left asked lanes has shaped words same = subst (AreRows lanes (λ q. not (is_listed A L q))) (sym same) (subst (λ m. AreRows m (λ q. not (is_listed A L q)) left.words.items) shaped has.remain.rows)
+pub listed_rows : (A : Arena ℕ) (L : List (Entry ℕ)) (left : Remaining) (probe : RowProbe) (lanes : ℕ) → HasListed A L left probe → left.lanes ≡ lanes → (words : List ℕ) → words ≡ left.words.items → AreRows lanes (λ q. not (is_listed A L q)) words
+listed_rows A L left probe lanes has shaped words same = subst (AreRows lanes (λ q. not (is_listed A L q))) (sym same) (subst (λ m. AreRows m (λ q. not (is_listed A L q)) left.words.items) shaped has.remain.rows)
 
 pub reason_given : (A : Arena ℕ) (r : Reason) → IsIn r (reasons A.actions) → IsReasonOf A r
 reason_given A Final i = tt
@@ -82,21 +82,21 @@ due_more : (body : List (List ℕ)) (line : List ℕ) (due : Due) → IsFalse (l
 due_more body line due none is = grind (arith, list_any-append, or-false)
 
 pub judged_body : (A : Arena ℕ) (old new : Audit) (line : List ℕ) (fault : Option Why) → old.due ≡ Body →
-    ((L : List (Entry ℕ)) → HasListed A L old.left old.asked → option_map fault_of fault ≡ body_fault A L (Some line)) →
-    ((L : List (Entry ℕ)) → HasListed A L old.left old.asked → fault ≡ None → HasListed A (L ++ entries_on A (line ∷ [])) new.left new.asked) →
+    ((L : List (Entry ℕ)) → HasListed A L old.left old.probe → option_map fault_of fault ≡ body_fault A L (Some line)) →
+    ((L : List (Entry ℕ)) → HasListed A L old.left old.probe → fault ≡ None → HasListed A (L ++ entries_on A (line ∷ [])) new.left new.probe) →
     new.due ≡ (if same_numbers end_line line then Nothing else old.due) → Judges A old new line fault
 judged_body A old new line fault due named list next = grind (arith, lines_due Body, due_more, fault_in_body, filter_map-append)
 
 -- an entry is judged by the list
 pub entry_takes : (A : Arena ℕ) → IsNumbered A → (lanes : ℕ) (old new : Audit) (x : Entry ℕ) (fault : Option Why) → old.due ≡ Body → new.due ≡ old.due → x.node < length A.nodes → IsInRows lanes (length A.nodes) new.left →
-    ((L : List (Entry ℕ)) → HasListed A L old.left old.asked → option_map fault_of fault ≡ entry_fault A L (Some x)) →
-    ((L : List (Entry ℕ)) → HasListed A L old.left old.asked → fault ≡ None → HasListed A (L ++ x ∷ []) new.left new.asked) → TakesEntry A lanes old new x fault
+    ((L : List (Entry ℕ)) → HasListed A L old.left old.probe → option_map fault_of fault ≡ entry_fault A L (Some x)) →
+    ((L : List (Entry ℕ)) → HasListed A L old.left old.probe → fault ≡ None → HasListed A (L ++ x ∷ []) new.left new.probe) → TakesEntry A lanes old new x fault
 entry_takes A ok lanes old new x fault due same inside shaped named list = record {
   judged = λ line is.
       let (i, e) = entry_of-is (length A.nodes) A.actions line x is in
       let other : IsFalse (same_numbers end_line line) = subst (λ bs. IsFalse (same_numbers end_line bs)) e (entry_is_no_end x (possible_small (length A.nodes) A.actions x (few_numbered A ok) i)) in
       judged_body A old new line fault due (λ L has. named L has ∙ sym (cond-false (same_numbers end_line line) (end_fault A L) (entry_fault A L (entry_of (length A.nodes) A.actions line)) other ∙ ap (entry_fault A L) is))
-      (λ L has none. subst (λ o. HasListed A (L ++ cons_option o []) new.left new.asked) (sym is) (list L has none))
+      (λ L has none. subst (λ o. HasListed A (L ++ cons_option o []) new.left new.probe) (sym is) (list L has none))
       (same ∙ sym (cond-false (same_numbers end_line line) Nothing old.due other));
   inside = inside;
   shaped = shaped;
@@ -105,12 +105,12 @@ entry_takes A ok lanes old new x fault due same inside shaped named list = recor
 
 -- an entry without a fault
 pub entry_taken : (A : Arena ℕ) → IsNumbered A → (lanes : ℕ) (old new : Audit) (x : Entry ℕ) → old.due ≡ Body → IsInRows lanes (length A.nodes) old.left → new.due ≡ old.due → x.node < length A.nodes → Removes old.left new.left x.node →
-    ((L : List (Entry ℕ)) → HasListed A L old.left old.asked → (true ≡ not (is_listed A L x.node)) × IsTrue (is_justified A (is_listed A L) x.node x.reason) × HoldsWhereKept A old.left.lanes (is_listed A L) new.asked) → TakesEntry A lanes old new x None
+    ((L : List (Entry ℕ)) → HasListed A L old.left old.probe → (true ≡ not (is_listed A L x.node)) × IsTrue (is_justified A (is_listed A L) x.node x.reason) × HoldsWhereKnown A old.left.lanes (is_listed A L) new.probe) → TakesEntry A lanes old new x None
 entry_taken A ok lanes old new x due shaped same inside removes holds =
     entry_takes A ok lanes old new x None due same inside (record { in_rows = removes.lanes ∙ shaped.in_rows; room = ap (λ n. n * lanes) removes.rows ∙ shaped.room })
     (λ L has. fault_by A L x true true (holds L has).0 (sym (holds L has).1)) (λ L has none. record {
       remain = removes.removed (length A.nodes) (is_listed A L) (is_listed A (L ++ x ∷ [])) has.remain inside (not-true (is_listed A L x.node) (sym (holds L has).0)) (listed_more A ok L x);
-      known = known_more A new.left.lanes _ _ _ (λ q gone. listed_more A ok L x q ∙ or_left _ _ gone) (subst (λ m. HoldsWhereKept A m (is_listed A L) new.asked) (sym removes.lanes) (holds L has).2);
+      known = known_more A new.left.lanes _ _ _ (λ q gone. listed_more A ok L x q ∙ or_left _ _ gone) (subst (λ m. HoldsWhereKnown A m (is_listed A L) new.probe) (sym removes.lanes) (holds L has).2);
     })
 
 pub judged_after_end : (A : Arena ℕ) (old new : Audit) (line : List ℕ) → old.due ≡ Nothing → Judges A old new line (Some Form)

@@ -41,9 +41,9 @@ pub use Rattle.roman_model.specs.declared.limits.TheConstants.{MAX_CERTIFICATE_B
 pub use Rattle.roman_model.specs.declared.reason.Reason.{Reason}
 pub use Rattle.roman_model.specs.declared.reason.Reason.TheVariants.{Act, Final}
 pub use Rattle.roman_rules.proofs.CallerLemmas.{known_more}
-pub use Rattle.roman_rules.specs.Asked.{HoldsWhereKept, IsReasonOf}
+pub use Rattle.roman_rules.specs.Probes.{HoldsWhereKnown, IsReasonOf}
 pub use Rattle.roman_rules.specs.Numbered.{IsNumbered}
-pub use Rattle.roman_rules.specs.declared.asked.Asked.{Asked}
+pub use Rattle.roman_rules.specs.declared.probe.RowProbe.{RowProbe}
 pub use Rattle.roman_check.specs.Audits.{HasListed, HasRead, IsInRows, Judges, TakesEntry, due_after}
 pub use Rattle.roman_check.specs.Checks.{HaveVerdict, NoneAtFault}
 pub use Rattle.roman_check.specs.Decimals.{HasDigits, IsNumberTo, IsTrim}

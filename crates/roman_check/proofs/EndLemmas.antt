@@ -33,7 +33,7 @@ opening_unread A ok (head ∷ size ∷ body) clean = ap₂ (λ o p. cons_option 
     (unread A ok (count_line (length A.nodes)) size 112 (codes "airs " ++ decimal (length A.nodes)) (clean 1 (omega arith)) refl (omega arith))
 
 pub ended_greatest : (A : Arena ℕ) → IsNumbered A → (start : ℕ) (bytes : List ℕ) (reader : Reader) (alive : Bool) → HasLines A (lines bytes) reader → length bytes ≤ MAX_CERTIFICATE_BYTES → reader.audit.due ≡ Nothing →
-    ((L : List (Entry ℕ)) → HasListed A L reader.audit.left reader.audit.asked → alive ≡ not (is_listed A L start)) → cert_verdict A start bytes ≡ text.Greatest reader.audit.left.count alive
+    ((L : List (Entry ℕ)) → HasListed A L reader.audit.left reader.audit.probe → alive ≡ not (is_listed A L start)) → cert_verdict A start bytes ≡ text.Greatest reader.audit.left.count alive
 ended_greatest A ok start bytes reader alive has short ended starts =
     let L = entries_on A (drop 2 (lines bytes)) in
     verdict_accepted A start bytes (lines bytes) short refl has.clean (may_end A (lines bytes) reader.audit has.read ended)

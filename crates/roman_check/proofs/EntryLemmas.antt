@@ -7,8 +7,7 @@ use Rattle.roman_check.proofs.Texts.{same_from, clear_before, taken_more}
 
 pub counted : (line front text : List ℕ) (n : ℕ) (b : Bool) → front ≡ codes "pairs " → line ≡ front ++ text → (IsTrue b → decimal n ≡ text) → (decimal n ≡ text → IsTrue b) → b ≡ same_numbers (count_line n) line
 counted line front text n b is whole to from =
-    same_from b (count_line n) line
-    (λ t. ap₂ (λ bs cs. bs ++ cs) (sym is) (to t) ∙ sym whole)
+    same_from b (count_line n) line (λ t. ap₂ (λ bs cs. bs ++ cs) (sym is) (to t) ∙ sym whole)
     (λ e. (let all : codes "pairs " ++ decimal n ≡ codes "pairs " ++ text = e ∙ whole ∙ ap (λ bs. bs ++ text) is in let same : decimal n ≡ text = cc in from same))
 
 -- Reasons

@@ -44,8 +44,7 @@ two_digits : (q a b : ℕ) → 0 < q → a < 10 → b < 10 → q < 2 ^ 32 → de
 two_digits q a b some tens ones small =
     let high : (q * 100 + a * 10 + b) / 10 ≡ q * 10 + a = omega arith in
     let low : (q * 100 + a * 10 + b) % 10 ≡ b = omega arith in
-    decimal_step (q * 100 + a * 10 + b) (omega arith) (omega arith)
-    ∙ ap₂ (λ m c. decimal m ++ c ∷ []) high (ap (λ c. 48 + c) low)
+    decimal_step (q * 100 + a * 10 + b) (omega arith) (omega arith) ∙ ap₂ (λ m c. decimal m ++ c ∷ []) high (ap (λ c. 48 + c) low)
     ∙ ap (λ ds. ds ++ (48 + b) ∷ []) (decimal_step (q * 10 + a) (omega arith) (omega arith) ∙ ap₂ (λ m c. decimal m ++ c ∷ []) (omega arith) (ap (λ c. 48 + c) (omega arith)))
     ∙ append_assoc (decimal q) ((48 + a) ∷ []) ((48 + b) ∷ [])
 

@@ -1,5 +1,5 @@
 -- Reasons that hold, and pairs that are missing.
-use Rattle.roman_check.proofs.Common.{◌≡◌, ◌≢◌, ℕ, ◌+◌, ◌-◌, ◌*◌, ◌^◌, ◌/◌, ◌%◌, ◌<◌, ◌≤◌, Bool, true, false, not, ◌&&◌, ◌||◌, List, get_or, [], ◌∷◌, length, Some, None, find, sym, ap, ap₂, ◌∙◌, subst, inl, inr, arith, add-one, bit_or, eqb, zero, suc, refl, bit_and, list_any, trailing_zeros, w64, bit_at, or-false, cases_lt, eq-eqb, false≢true, same_from_place, row_fits, list_any-append, below, Arena, Entry, is_justified, is_listed, Reason, Act, could_be_listed, reasons, could_be_by, NoneMissing, from_below, none_from, find_first, find_not_found, list_any-map, is_on, AreRows, HasLanes, on_zero, on_or, on_and, IsNumbered, bit_at-trailing_zeros}
+use Rattle.roman_check.proofs.Common.{◌≡◌, ◌≢◌, ℕ, ◌+◌, ◌-◌, ◌*◌, ◌^◌, ◌/◌, ◌%◌, ◌<◌, ◌≤◌, Bool, true, false, not, ◌&&◌, ◌||◌, List, get_or, [], ◌∷◌, length, Some, None, find, sym, ap, ap₂, ◌∙◌, subst, inl, inr, arith, add-one, bit_or, eqb, zero, suc, refl, bit_and, list_any, trailing_zeros, w64, bit_at, or-false, cases_lt, eq-eqb, false≢true, list_any-append, below, Arena, Entry, is_justified, is_listed, Reason, Act, could_be_listed, reasons, could_be_by, NoneMissing, from_below, none_from, find_first, find_not_found, list_any-map, is_on, AreRows, HasLanes, on_zero, on_or, on_and, IsNumbered, bit_at-trailing_zeros}
 
 -- Reasons
 
@@ -7,13 +7,13 @@ any_below_more : (test : ℕ → Bool) (n : ℕ) → list_any test (below (n + 1
 any_below_more test n =
     ap (λ m. list_any test (below m)) (add-one n) ∙ list_any-append test (below n) (n ∷ []) ∙ ap (λ b. list_any test (below n) || b) (or-false (test n))
 
--- one more action is asked about
+-- one more action is probed for
 pub one_more : (left : Bool) (test : Reason → Bool) (a : ℕ) → ((left && list_any test (reasons a)) || (left && test (Act a))) ≡ (left && list_any test (reasons (a + 1)))
 one_more left test a = grind (arith, any_below_more, list_any-map)
 
--- all actions were asked about
-pub all_asked : (A : Arena ℕ) (L : List (Entry ℕ)) (lanes x word actions : ℕ) → HasLanes lanes x (could_be_by A L actions) word → actions ≡ A.actions → HasLanes lanes x (could_be_listed A L) word
-all_asked A L lanes x word actions has all = subst (λ n. HasLanes lanes x (could_be_by A L n) word) all has
+-- all actions were probed for
+pub all_probed : (A : Arena ℕ) (L : List (Entry ℕ)) (lanes x word actions : ℕ) → HasLanes lanes x (could_be_by A L actions) word → actions ≡ A.actions → HasLanes lanes x (could_be_listed A L) word
+all_probed A L lanes x word actions has all = subst (λ n. HasLanes lanes x (could_be_by A L n) word) all has
 
 pub and_lanes : (lanes x a b : ℕ) (test : ℕ → Bool) → HasLanes lanes x test b → (lane : ℕ) → lane < lanes → is_on (bit_and a b) lane ≡ (is_on a lane && test (x * lanes + lane))
 and_lanes lanes x a b test has lane l = on_and a b lane ∙ ap (λ t. is_on a lane && t) (has.each lane l)
@@ -31,7 +31,7 @@ module _ (A : Arena ℕ) (L : List (Entry ℕ)) (lanes x left lost : ℕ) (rest 
   pub final_lanes : ((lane : ℕ) → lane < lanes → is_on lost lane ≡ (is_on left lane && not (A.fine (x * lanes + lane)))) → HasLanes lanes x (could_be_by A L 0) lost
   final_lanes here = record { each = λ lane l. grind (arith, here lane l, rest.each lane l, or-false); rest = λ lane l. none lane (rest.rest lane l) }
 
-  -- the same where one more action is asked about
+  -- the same where one more action is probed for
   pub more_lanes : (missing a : ℕ) → HasLanes lanes x (could_be_by A L a) missing → ((lane : ℕ) → lane < lanes → is_on lost lane ≡ (is_on left lane && is_justified A (is_listed A L) (x * lanes + lane) (Act a))) →
       HasLanes lanes x (could_be_by A L (a + 1)) (bit_or missing lost)
   more_lanes missing a so_far here = record {
@@ -49,14 +49,6 @@ lowest word some small =
     (eq-eqb (bit_at word (trailing_zeros w64 word)) 1 one, λ i l. ap (λ b. eqb b 1) (none i l))
 
 -- Rows
-
--- there are as many rows as words
-pub same_rows : (rows words lanes : ℕ) → 0 < lanes → rows * lanes ≡ words * lanes → rows ≡ words
-same_rows rows words lanes some e = (same_from_place rows 0 words 0 lanes some some (ap (λ n. n + 0) e)).0
-
--- each row, or band, ends within all of them
-pub row_ends : (x rows lanes : ℕ) → x < rows → x * lanes + lanes ≤ rows * lanes
-row_ends x rows lanes l = row_fits x lanes rows lanes l (omega arith)
 
 module _ (A : Arena ℕ) (lanes : ℕ) (words : List ℕ) where
   -- the words have the bits of the pairs that aren't listed

@@ -7,8 +7,8 @@ use Rattle.roman_model.specs.Arena.{Arena, Entry, is_listed, is_justified}
 use Rattle.roman_model.specs.Certificate.{end_line, entries_on, entry_of, line_fault}
 use Rattle.roman_model.specs.declared.reason.Reason.{Reason}
 use Rattle.roman_lanes.specs.Rows.{AreRows}
-use Rattle.roman_rules.specs.declared.asked.Asked.{Asked}
-use Rattle.roman_rules.specs.Asked.{HoldsWhereKept, IsReasonOf}
+use Rattle.roman_rules.specs.declared.probe.RowProbe.{RowProbe}
+use Rattle.roman_rules.specs.Probes.{HoldsWhereKnown, IsReasonOf}
 use Rattle.roman_check.specs.declared.audit.Audit.{Audit}
 use Rattle.roman_check.specs.declared.audit.Due.{Due}
 use Rattle.roman_check.specs.declared.audit.Front.{Front}
@@ -29,36 +29,44 @@ pub record IsInRows (lanes pairs : ℕ) (left : Remaining) : Type 0 where
   pub in_rows : left.lanes ≡ lanes
   pub room : length left.words.items * lanes ≡ pairs
 
--- the row that was asked last, which is one of the table
+-- the table has one bit for each node of the arena
+abbrev pub IsTableOf : Arena ℕ → ℕ → Remaining → Type 0
+IsTableOf A lanes left = IsInRows lanes (length A.nodes) left
+
+-- the row that was probed last, which is one of the table
 pub record IsFront (audit : Audit) (front : Front) : Type 0 where
   pub inside : front.row < length audit.left.words.items
-  pub row : front.row ≡ audit.asked.row
+  pub row : front.row ≡ audit.probe.row
   pub first : front.first ≡ front.row * audit.left.lanes
   pub lanes : front.lanes ≡ audit.left.lanes
-  pub known : front.known ≡ audit.asked.lanes
+  pub known : front.known ≡ audit.probe.lanes
 
 -- where the stored answer of a row is right, the result is whether the reason holds at the pair with the table's pairs left, and the new stored answer is right
-pub record AnswersReason (A : Arena ℕ) (left : Remaining) (p : ℕ) (reason : Reason) (old new : Asked) (result : Bool) : Type 0 where
-  pub justified : (gone : ℕ → Bool) → AreRows left.lanes (λ q. not (gone q)) left.words.items → HoldsWhereKept A left.lanes gone old → result ≡ is_justified A gone p reason
-  pub known : (gone : ℕ → Bool) → AreRows left.lanes (λ q. not (gone q)) left.words.items → HoldsWhereKept A left.lanes gone old → HoldsWhereKept A left.lanes gone new
+pub record AnswersReason (A : Arena ℕ) (left : Remaining) (p : ℕ) (reason : Reason) (old new : RowProbe) (result : Bool) : Type 0 where
+  pub justified : (gone : ℕ → Bool) → AreRows left.lanes (λ q. not (gone q)) left.words.items → HoldsWhereKnown A left.lanes gone old → result ≡ is_justified A gone p reason
+  pub known : (gone : ℕ → Bool) → AreRows left.lanes (λ q. not (gone q)) left.words.items → HoldsWhereKnown A left.lanes gone old → HoldsWhereKnown A left.lanes gone new
+
+-- this holds of the pair at a row and a lane of the table
+abbrev pub AnswersAt : Arena ℕ → Remaining → ℕ × ℕ → Reason → RowProbe → RowProbe → Bool → Type 0
+AnswersAt A left place reason old new result = AnswersReason A left (place.0 * left.lanes + place.1) reason old new result
 
 -- the place is a row and a lane of the table, and the reason is one of the system
-pub record IsQuestion (A : Arena ℕ) (width : ℕ) (left : Remaining) (place : ℕ × ℕ) (asked : Reason) : Type 0 where
+pub record CanProbeAt (A : Arena ℕ) (width : ℕ) (left : Remaining) (place : ℕ × ℕ) (why : Reason) : Type 0 where
   pub lanes : left.lanes ≡ width
   pub room : length left.words.items * width ≡ length A.nodes
   pub pair : place.0 * left.lanes + place.1 < length A.nodes
   pub lane : place.1 < left.lanes
-  pub reason : IsReasonOf A asked
+  pub reason : IsReasonOf A why
 
 -- the table has the pairs that the list doesn't name, and the stored answer of a row is right
-pub record HasListed (A : Arena ℕ) (L : List (Entry ℕ)) (left : Remaining) (asked : Asked) : Type 0 where
+pub record HasListed (A : Arena ℕ) (L : List (Entry ℕ)) (left : Remaining) (probe : RowProbe) : Type 0 where
   pub remain : Remain (length A.nodes) (is_listed A L) left
-  pub known : HoldsWhereKept A left.lanes (is_listed A L) asked
+  pub known : HoldsWhereKnown A left.lanes (is_listed A L) probe
 
 -- the lines read so far are those of the text
 pub record HasRead (A : Arena ℕ) (text : List (List ℕ)) (audit : Audit) : Type 0 where
   pub due : audit.due ≡ due_after text
-  pub list : HasListed A (entries_on A (drop 2 text)) audit.left audit.asked
+  pub list : HasListed A (entries_on A (drop 2 text)) audit.left audit.probe
 
 -- the next line's fault is returned, and a line without a fault is read
 pub record Judges (A : Arena ℕ) (old new : Audit) (line : List ℕ) (fault : Option Why) : Type 0 where

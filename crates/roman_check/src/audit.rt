@@ -1,9 +1,9 @@
 //! Judges each line of a certificate by the lines read before it.
 ghost use Rattle.std.specs.Prelude.{◌≡◌, ℕ, ◌+◌, ◌*◌, ◌<◌, false, not, IsTrue, List, [], None, Some, length, IfOk, IfSome, if◌then◌else◌};
 ghost use Rattle.roman_model.specs.Arena.{Arena, Entry, is_listed};
-ghost use Rattle.roman_rules.specs.Asked.{IsReasonOf};
+ghost use Rattle.roman_rules.specs.Probes.{IsReasonOf};
 ghost use Rattle.roman_check.specs.Readings.{entry_with};
-ghost use Rattle.roman_check.specs.Audits.{IsInRows, IsFront, AnswersReason, IsQuestion, HasListed, Judges, TakesEntry};
+ghost use Rattle.roman_check.specs.Audits.{IsTableOf, IsFront, AnswersAt, CanProbeAt, HasListed, Judges, TakesEntry};
 
 use crate::entries::{entry, is_count, is_end, is_head};
 use crate::missing::first_missing;
@@ -12,7 +12,7 @@ use crate::table::Remaining;
 use crate::verdict::Why;
 use roman_io::Steps;
 use roman_model::Reason;
-use roman_rules::{Asked, Rules};
+use roman_rules::{RowProbe, Rules};
 use std::alloc::{AllocError, Global};
 use std::sync::ledger::Ledger;
 
@@ -29,7 +29,7 @@ pub(crate) enum Due {
     Nothing,
 }
 
-/// The row that was asked last.
+/// The row that was probed last.
 #[derive(Clone, Copy)]
 pub(crate) struct Front {
     pub(crate) row: u32,
@@ -47,60 +47,63 @@ pub(crate) struct Audit {
     // the pairs that no entry names
     pub(crate) left: Remaining,
     // the last answer of a row about the reason of an entry
-    pub(crate) asked: Asked,
+    pub(crate) probe: RowProbe,
 }
 
-/// Asks a row whether a reason holds at one of its lanes, where the pairs `left` remain. `place` is the
+/// Probes a row: finds whether a reason holds at one of its lanes, where the pairs `left` remain. `place` is the
 /// row and the lane.
 #[cold]
 #[inline(never)]
-fn ask<J: Rules, L: Ledger>(
-    asked: &mut Asked,
+fn probe_row<J: Rules, L: Ledger>(
+    probe: &mut RowProbe,
     joint: &J,
     left: &Remaining,
     place: (u32, u32),
     reason: Reason,
     steps: &mut Steps<L>,
 ) -> bool
-    requires { IsQuestion (J.arena joint.now) (J.lanes joint.now) left.now place reason }
-    ensures { AnswersReason (J.arena joint.now) left.now (place.0 * left.now.lanes + place.1) reason asked.old asked.new result }
+    requires { CanProbeAt (J.arena joint.now) (J.lanes joint.now) left.now place reason }
+    ensures { AnswersAt (J.arena joint.now) left.now place reason probe.old probe.new result }
 {
     let (row, lane) = place;
-    has_lane(asked.ask(joint, left.words(), row, reason, steps), lane)
+    has_lane(
+        probe.probe_row(joint, left.words(), row, reason, steps),
+        lane,
+    )
 }
 
 /// Returns whether a reason holds at a pair, where the pairs `left` remain. `place` is the row and the
-/// lane of the pair. Asks no row where the answer is known.
+/// lane of the pair. Probes no row where the answer is known.
 #[inline(always)]
 fn holds<J: Rules, L: Ledger>(
-    asked: &mut Asked,
+    probe: &mut RowProbe,
     joint: &J,
     left: &Remaining,
     place: (u32, u32),
     reason: Reason,
     steps: &mut Steps<L>,
 ) -> bool
-    requires { IsQuestion (J.arena joint.now) (J.lanes joint.now) left.now place reason }
-    ensures { AnswersReason (J.arena joint.now) left.now (place.0 * left.now.lanes + place.1) reason asked.old asked.new result }
+    requires { CanProbeAt (J.arena joint.now) (J.lanes joint.now) left.now place reason }
+    ensures { AnswersAt (J.arena joint.now) left.now place reason probe.old probe.new result }
 {
     let (row, lane) = place;
-    if row == asked.row && reason == asked.reason && has_lane(asked.lanes, lane) {
+    if row == probe.row && reason == probe.reason && has_lane(probe.lanes, lane) {
         return true;
     }
-    ask(asked, joint, left, place, reason, steps)
+    probe_row(probe, joint, left, place, reason, steps)
 }
 
 impl Audit {
     /// Begins an audit, before the first line. Fails only when out of memory.
     pub(crate) fn build<J: Rules>(alloc: Global, joint: &J) -> Result<Audit, AllocError>
         ensures due { IfOk result (λ audit. audit.due ≡ Due.Head) }
-        ensures list { IfOk result (λ audit. HasListed (J.arena joint.now) [] audit.left audit.asked) }
-        ensures shaped { IfOk result (λ audit. IsInRows (J.lanes joint.now) (length (J.arena joint.now).nodes) audit.left) }
+        ensures list { IfOk result (λ audit. HasListed (J.arena joint.now) [] audit.left audit.probe) }
+        ensures shaped { IfOk result (λ audit. IsTableOf (J.arena joint.now) (J.lanes joint.now) audit.left) }
     {
         Ok(Audit {
             due: Due::Head,
             left: Remaining::build(alloc, joint.rows(), joint.lanes(), joint.pairs())?,
-            asked: Asked::nothing(),
+            probe: RowProbe::nothing(),
         })
     }
 
@@ -129,29 +132,30 @@ impl Audit {
         reason: Reason,
         steps: &mut Steps<L>,
     ) -> Option<Why>
-        requires shaped { IsInRows (J.lanes joint.now) (length (J.arena joint.now).nodes) self.old.left }
+        requires shaped { IsTableOf (J.arena joint.now) (J.lanes joint.now) self.old.left }
         requires due { self.old.due ≡ Due.Body }
         requires entry { (pair < length (J.arena joint.now).nodes) × IsReasonOf (J.arena joint.now) reason }
-        ensures { TakesEntry (J.arena joint.now) (J.lanes joint.now) self.old self.new (entry_with (pair, reason)) result }
+        ensures { TakesEntry (J.arena joint.now) (J.lanes joint.now) self.old self.new
+            (entry_with (pair, reason)) result }
     {
         joint.known(); // pairs are told apart by their numbers
-        let (row, lane) = self.left.place(self.asked.row, pair);
+        let (row, lane) = self.left.place(self.probe.row, pair);
         if !self.left.has(row, lane) {
             return Some(Why::Repeated);
         }
         let (left, place) = (&self.left, (row, lane));
-        if !holds(&mut self.asked, joint, left, place, reason, steps) {
+        if !holds(&mut self.probe, joint, left, place, reason, steps) {
             return Some(Why::Unjustified);
         }
         self.left.remove(row, lane);
         None
     }
 
-    /// Returns the row that was asked last, or `None` where the table has no such row.
+    /// Returns the row that was probed last, or `None` where the table has no such row.
     pub(crate) fn front(&self) -> Option<Front>
         ensures { IfSome result (IsFront self.now) }
     {
-        let (row, lanes) = (self.asked.row, self.left.lanes);
+        let (row, lanes) = (self.probe.row, self.left.lanes);
         if row as usize >= self.left.words().len() {
             return None;
         }
@@ -159,20 +163,21 @@ impl Audit {
             row,
             first: u64::from(row) * u64::from(lanes),
             lanes,
-            known: self.asked.lanes,
+            known: self.probe.lanes,
         })
     }
 
-    /// Removes a pair that remains, if it lies in the row that was asked last and the reason asked
+    /// Removes a pair that remains, if it lies in the row that was probed last and the reason probed
     /// about is known to hold there. Returns whether it did, and changes nothing otherwise.
     #[inline(always)]
     pub(crate) fn take_known<J: Rules>(&mut self, joint: &J, front: Front, pair: u64) -> bool
-        requires shaped { IsInRows (J.lanes joint.now) (length (J.arena joint.now).nodes) self.old.left }
+        requires shaped { IsTableOf (J.arena joint.now) (J.lanes joint.now) self.old.left }
         requires due { self.old.due ≡ Due.Body }
         requires front { IsFront self.old front }
-        ensures taken { IsTrue result → TakesEntry (J.arena joint.now) (J.lanes joint.now) self.old self.new (entry_with (pair, self.old.asked.reason)) None }
+        ensures taken { IsTrue result → TakesEntry (J.arena joint.now) (J.lanes joint.now) self.old self.new
+            (entry_with (pair, self.old.probe.reason)) None }
         ensures untaken { result ≡ false → self.new ≡ self.old }
-        ensures asked { self.new.asked ≡ self.old.asked }
+        ensures probe { self.new.probe ≡ self.old.probe }
     {
         joint.known(); // pairs are told apart by their numbers
         let Some(lane) = lane_from(front.first, front.lanes, pair) else {
@@ -192,10 +197,10 @@ impl Audit {
         line: &[u8],
         steps: &mut Steps<L>,
     ) -> Option<Why>
-        requires shaped { IsInRows (J.lanes joint.now) (length (J.arena joint.now).nodes) self.old.left }
+        requires shaped { IsTableOf (J.arena joint.now) (J.lanes joint.now) self.old.left }
         requires due { self.old.due ≡ Due.Body }
         ensures judged { Judges (J.arena joint.now) self.old self.new line.now result }
-        ensures shaped { IsInRows (J.lanes joint.now) (length (J.arena joint.now).nodes) self.new.left }
+        ensures shaped { IsTableOf (J.arena joint.now) (J.lanes joint.now) self.new.left }
     {
         joint.known(); // a pair's number fits 32 bits
         if !is_end(line) {
@@ -219,9 +224,9 @@ impl Audit {
         line: &[u8],
         steps: &mut Steps<L>,
     ) -> Option<Why>
-        requires shaped { IsInRows (J.lanes joint.now) (length (J.arena joint.now).nodes) self.old.left }
+        requires shaped { IsTableOf (J.arena joint.now) (J.lanes joint.now) self.old.left }
         ensures judged { Judges (J.arena joint.now) self.old self.new line.now result }
-        ensures shaped { IsInRows (J.lanes joint.now) (length (J.arena joint.now).nodes) self.new.left }
+        ensures shaped { IsTableOf (J.arena joint.now) (J.lanes joint.now) self.new.left }
     {
         match self.due {
             Due::Head => self.judge_opening(is_head(line), Due::Count),
@@ -234,9 +239,10 @@ impl Audit {
     /// Returns whether no entry read so far names the pair `p`.
     pub(crate) fn is_left(&self, p: u32) -> bool
         requires { p < length self.now.left.words.items * self.now.left.lanes }
-        ensures { (A : Arena ℕ) (L : List (Entry ℕ)) → HasListed A L self.now.left self.now.asked → result ≡ not (is_listed A L p) }
+        ensures { (A : Arena ℕ) (L : List (Entry ℕ)) → HasListed A L self.now.left self.now.probe →
+            result ≡ not (is_listed A L p) }
     {
-        let (row, lane) = self.left.place(self.asked.row, p);
+        let (row, lane) = self.left.place(self.probe.row, p);
         self.left.has(row, lane)
     }
 }

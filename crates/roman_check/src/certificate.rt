@@ -4,7 +4,7 @@ ghost use Rattle.roman_io.specs.Faults.{Rose};
 ghost use Rattle.roman_io.specs.Source.{IsAtEnd, GaveAtMost};
 ghost use Rattle.roman_model.specs.Certificate.{TooLong};
 ghost use Rattle.roman_check.specs.Verdicts.{verdict_of};
-ghost use Rattle.roman_check.specs.Audits.{IsInRows};
+ghost use Rattle.roman_check.specs.Audits.{IsTableOf};
 ghost use Rattle.roman_check.specs.Readers.{IsReading};
 ghost use Rattle.roman_check.specs.Checks.{HaveVerdict, NoneAtFault, SaysGreatest, Comes};
 
@@ -26,10 +26,11 @@ fn read<J: Rules, S: Source, L: Ledger>(
     steps: &mut Steps<L>,
 ) -> Result<Verdict, CheckError>
     requires start { start < length (J.arena joint.now).nodes }
-    requires shaped { IsInRows (J.lanes joint.now) (length (J.arena joint.now).nodes) reader.old.audit.left }
+    requires shaped { IsTableOf (J.arena joint.now) (J.lanes joint.now) reader.old.audit.left }
     requires lines { reader.old.lines ≡ 0 }
     requires reading { IsReading (J.arena joint.now) [] reader.old }
-    ensures comes { Comes (J.arena joint.now) start (S.rest source.old) (S.rest source.new) (S.faults source.old) (S.faults source.new) result }
+    ensures comes { Comes (J.arena joint.now) start (S.rest source.old) (S.rest source.new) (S.faults source.old)
+        (S.faults source.new) result }
     ensures taken { GaveAtMost (MAX_CERTIFICATE_BYTES + PIECE_BYTES) (S.rest source.old) (S.rest source.new) }
     ensures whole { IfOk result (λ verdict. SaysGreatest verdict → IsAtEnd (S.rest source.new)) }
     ensures borrowed { S.borrowed source.new ≡ S.borrowed source.old }
@@ -77,13 +78,16 @@ pub fn check<J: Rules, S: Source, L: Ledger>(
     requires { start < length (J.arena joint.now).nodes }
 
     // The verdict is the one that the format gives on all bytes of the source.
-    ensures verdict { IfOk result (λ verdict. HaveVerdict (J.arena joint.now) start (S.rest source.old) (verdict_of verdict)) }
-    ensures too_long { IsErrOf result CheckError.TooLong → HaveVerdict (J.arena joint.now) start (S.rest source.old) TooLong }
+    ensures verdict { IfOk result (λ verdict. HaveVerdict (J.arena joint.now) start (S.rest source.old)
+        (verdict_of verdict)) }
+    ensures too_long { IsErrOf result CheckError.TooLong → HaveVerdict (J.arena joint.now) start
+        (S.rest source.old) TooLong }
     ensures whole { IfOk result (λ verdict. SaysGreatest verdict → IsAtEnd (S.rest source.new)) }
 
     // `Fault` follows only a failure of the source, and no whole line before it is at fault.
     ensures fault { IsErrOf result CheckError.Fault → Rose (S.faults source.old) (S.faults source.new) }
-    ensures none_at_fault { IsErrOf result CheckError.Fault → NoneAtFault (J.arena joint.now) (S.rest source.old) (S.rest source.new) }
+    ensures none_at_fault { IsErrOf result CheckError.Fault →
+        NoneAtFault (J.arena joint.now) (S.rest source.old) (S.rest source.new) }
     ensures counts { result ≢ Err CheckError.Fault → S.faults source.new ≡ S.faults source.old }
 
     ensures taken { GaveAtMost (MAX_CERTIFICATE_BYTES + PIECE_BYTES) (S.rest source.old) (S.rest source.new) }

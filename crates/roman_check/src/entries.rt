@@ -85,7 +85,8 @@ fn reason_of(byte: u8, actions: u8) -> Option<Reason>
 /// `None` for a valid reason.
 #[inline]
 fn front_reason(bytes: &[u8], actions: u8) -> Option<(Reason, usize)>
-    ensures { IfSome result (λ r. IsIn r.0 (reasons actions) × IsEndedAt bytes.now r.1 × (reason_text r.0 ≡ take r.1 bytes.now)) }
+    ensures { IfSome result (λ r. IsIn r.0 (reasons actions) × IsEndedAt bytes.now r.1
+        × (reason_text r.0 ≡ take r.1 bytes.now)) }
 {
     if bytes.len() > 1 && bytes[1] == b'\n' {
         let reason = reason_of(bytes[0], actions)?;
@@ -104,7 +105,8 @@ pub(crate) fn front_entry(
     pairs: u32,
     actions: u8,
 ) -> Option<(u32, Reason, usize, usize)>
-    ensures { IfSome result (λ r. (r.0 < pairs) × IsIn r.1 (reasons actions) × (ROOM ≤ length bytes.now) × HasParts bytes.now r.0 r.1 r.2 r.3) }
+    ensures { IfSome result (λ r. (r.0 < pairs) × IsIn r.1 (reasons actions) × (ROOM ≤ length bytes.now)
+        × HasParts bytes.now r.0 r.1 r.2 r.3) }
 {
     if bytes.len() < ROOM || !matches!(bytes[0], b'1'..=b'9') {
         return None;

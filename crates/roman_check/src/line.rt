@@ -53,7 +53,8 @@ impl Line {
 
     /// Returns the bytes, or `None` where there are more than [`ROOM`].
     pub(crate) fn text(&self) -> Option<&[u8]>
-        ensures { (bytes : List ℕ) → Holds self.now bytes → MatchOption result (ROOM < length bytes) (λ text. text.now ≡ bytes) }
+        ensures { (bytes : List ℕ) → Holds self.now bytes → MatchOption result (ROOM < length bytes)
+            (λ text. text.now ≡ bytes) }
     {
         if self.len > ROOM {
             None

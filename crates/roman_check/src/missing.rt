@@ -6,17 +6,15 @@ ghost use Rattle.roman_model.specs.Certificate.{could_be_listed};
 ghost use Rattle.roman_lanes.specs.Rows.{HasLanes, AreRows};
 ghost use Rattle.roman_check.specs.Remain.{NoneMissing};
 
-use roman_rules::{Rules, are_clear, copy_rows};
-
-/// The greatest number of rows in a band.
-const BAND: usize = 64;
+use roman_rules::{BAND, Rules, are_clear, copy_rows};
 
 /// Returns the missing pairs of the row `x`. `words` has the bits of the pairs that aren't listed.
 fn missing_in<J: Rules>(joint: &J, words: &[u64], x: u32) -> u64
     requires row { x < length words.now }
     requires room { length words.now * J.lanes joint.now ≡ length (J.arena joint.now).nodes }
     ensures { let A = J.arena joint.now in
-        (L : List (Entry ℕ)) → AreRows (J.lanes joint.now) (λ p. not (is_listed A L p)) words.now → HasLanes (J.lanes joint.now) x (could_be_listed A L) result }
+        (L : List (Entry ℕ)) → AreRows (J.lanes joint.now) (λ p. not (is_listed A L p)) words.now →
+        HasLanes (J.lanes joint.now) x (could_be_listed A L) result }
 {
     joint.known(); // a row has 1 to 64 lanes
     let left = words[x as usize];
@@ -63,7 +61,7 @@ fn misses_some<J: Rules>(joint: &J, words: &[u64], y: u32, resting: u64, left: &
 
 /// Returns a number of rows, from the first row on, that miss no pair. `words` has the bits of the
 /// pairs that aren't listed. Searches band by band, and stops at the first band that may miss a pair.
-#[tactic(auto, using(crate::proofs::ReasonLemmas::row_ends, crate::proofs::ReasonLemmas::same_rows))]
+#[tactic(auto, using(std::proofs::lemmas::Nat::row_fits, roman_model::proofs::CallerLemmas::mul_cancel))]
 fn rows_before<J: Rules>(joint: &J, words: &[u64]) -> u32
     requires { length words.now * J.lanes joint.now ≡ length (J.arena joint.now).nodes }
     ensures { NoneMissing (J.arena joint.now) (J.lanes joint.now) words.now (result * J.lanes joint.now) }

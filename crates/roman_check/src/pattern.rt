@@ -141,7 +141,8 @@ impl Pattern {
         requires room { 16 ≤ length bytes.now }
         requires parts { HasParts bytes.now pair reason space len }
         ensures pattern { IsPattern self.new.text self.new.shape }
-        ensures reason { (actions : ℕ) → IsIn self.old.shape.reason (reasons actions) → IsIn reason (reasons actions) → IsIn self.new.shape.reason (reasons actions) }
+        ensures reason { (actions : ℕ) → IsIn self.old.shape.reason (reasons actions) →
+            IsIn reason (reasons actions) → IsIn self.new.shape.reason (reasons actions) }
     {
         if pair < 100 || len >= WIDTH {
             return;

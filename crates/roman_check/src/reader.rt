@@ -6,7 +6,7 @@ ghost use Rattle.roman_model.specs.Arena.{Arena};
 ghost use Rattle.roman_model.specs.Certificate.{reasons};
 ghost use Rattle.roman_rules.specs.Numbered.{IsNumbered};
 ghost use Rattle.roman_check.specs.Lines.{Holds, IsPattern};
-ghost use Rattle.roman_check.specs.Audits.{IsInRows, Judges};
+ghost use Rattle.roman_check.specs.Audits.{IsTableOf, Judges};
 ghost use Rattle.roman_check.specs.Readers.{IsReading, HasLines, IsBetween, ReadsPart, ReadsPiece, EndsLine, Closes, Decides};
 
 use crate::audit::{Audit, Due};
@@ -40,7 +40,7 @@ impl Reader {
     /// Begins a check, before the first byte. Fails only when out of memory.
     pub(crate) fn build<J: Rules>(alloc: Global, joint: &J) -> Result<Reader, AllocError>
         ensures reading { IfOk result (IsReading (J.arena joint.now) []) }
-        ensures shaped { IfOk result (λ reader. IsInRows (J.lanes joint.now) (length (J.arena joint.now).nodes) reader.audit.left) }
+        ensures shaped { IfOk result (λ reader. IsTableOf (J.arena joint.now) (J.lanes joint.now) reader.audit.left) }
         ensures lines { IfOk result (λ reader. reader.lines ≡ 0) }
     {
         Ok(Reader {
@@ -58,10 +58,10 @@ impl Reader {
         last: &[u8],
         steps: &mut Steps<L>,
     ) -> Option<Why>
-        requires shaped { IsInRows (J.lanes joint.now) (length (J.arena joint.now).nodes) self.old.audit.left }
+        requires shaped { IsTableOf (J.arena joint.now) (J.lanes joint.now) self.old.audit.left }
         ensures judged { (bytes : List ℕ) → Holds self.old.line bytes →
             Judges (J.arena joint.now) self.old.audit self.new.audit (bytes ++ last.now) result }
-        ensures shaped { IsInRows (J.lanes joint.now) (length (J.arena joint.now).nodes) self.new.audit.left }
+        ensures shaped { IsTableOf (J.arena joint.now) (J.lanes joint.now) self.new.audit.left }
         ensures lines { self.new.lines ≡ self.old.lines }
     {
         joint.known(); // a pair's number fits 32 bits
@@ -82,7 +82,7 @@ impl Reader {
         last: &[u8],
         steps: &mut Steps<L>,
     ) -> Option<Why>
-        requires shaped { IsInRows (J.lanes joint.now) (length (J.arena joint.now).nodes) self.old.audit.left }
+        requires shaped { IsTableOf (J.arena joint.now) (J.lanes joint.now) self.old.audit.left }
         requires room { self.old.lines ≤ MAX_CERTIFICATE_BYTES }
         ensures { EndsLine (J.arena joint.now) (J.lanes joint.now) self.old self.new last.now result }
     {
@@ -103,7 +103,7 @@ impl Reader {
         piece: &[u8],
         from: usize,
     ) -> usize
-        requires shaped { IsInRows (J.lanes joint.now) (length (J.arena joint.now).nodes) self.old.audit.left }
+        requires shaped { IsTableOf (J.arena joint.now) (J.lanes joint.now) self.old.audit.left }
         requires place { from ≤ length piece.now }
         requires room { self.old.lines + length piece.now ≤ MAX_CERTIFICATE_BYTES + from }
         requires between { IsBetween self.old }
@@ -115,7 +115,7 @@ impl Reader {
         joint.known(); // a pair's number fits 32 bits
         let mut start = from;
         let (mut text, shape) = (pattern.text, pattern.shape);
-        if shape.reason != self.audit.asked.reason {
+        if shape.reason != self.audit.probe.reason {
             return start;
         }
         let Some(front) = self.audit.front() else {
@@ -144,11 +144,13 @@ impl Reader {
         from: usize,
         steps: &mut Steps<L>,
     ) -> Result<usize, Why>
-        requires shaped { IsInRows (J.lanes joint.now) (length (J.arena joint.now).nodes) self.old.audit.left }
+        requires shaped { IsTableOf (J.arena joint.now) (J.lanes joint.now) self.old.audit.left }
         requires place { from ≤ length piece.now }
         requires room { self.old.lines + length piece.now ≤ MAX_CERTIFICATE_BYTES + from }
-        ensures read { IfOk result (λ start. ReadsPart (J.arena joint.now) (J.lanes joint.now) self.old self.new piece.now from start None) }
-        ensures fault { IfErr result (λ why. (to : ℕ) × ReadsPart (J.arena joint.now) (J.lanes joint.now) self.old self.new piece.now from to (Some why)) }
+        ensures read { IfOk result (λ start. ReadsPart (J.arena joint.now)
+            (J.lanes joint.now) self.old self.new piece.now from start None) }
+        ensures fault { IfErr result (λ why. (to : ℕ) × ReadsPart (J.arena joint.now)
+            (J.lanes joint.now) self.old self.new piece.now from to (Some why)) }
     {
         joint.known(); // a pair's number fits 32 bits
         let mut start = from;
@@ -179,7 +181,7 @@ impl Reader {
         piece: &[u8],
         steps: &mut Steps<L>,
     ) -> Option<Why>
-        requires shaped { IsInRows (J.lanes joint.now) (length (J.arena joint.now).nodes) self.old.audit.left }
+        requires shaped { IsTableOf (J.arena joint.now) (J.lanes joint.now) self.old.audit.left }
         requires room { self.old.lines + length piece.now ≤ MAX_CERTIFICATE_BYTES }
         ensures { ReadsPiece (J.arena joint.now) (J.lanes joint.now) self.old self.new piece.now result }
     {
@@ -204,10 +206,10 @@ impl Reader {
     /// Reads the last line where its newline is missing. Returns its fault, if it has one.
     #[tactic(auto, using(crate::proofs::ReaderLemmas::closed_line))]
     fn close<J: Rules, L: Ledger>(&mut self, joint: &J, steps: &mut Steps<L>) -> Option<Why>
-        requires shaped { IsInRows (J.lanes joint.now) (length (J.arena joint.now).nodes) self.old.audit.left }
+        requires shaped { IsTableOf (J.arena joint.now) (J.lanes joint.now) self.old.audit.left }
         requires room { self.old.lines ≤ MAX_CERTIFICATE_BYTES }
         ensures closed { Closes (J.arena joint.now) self.old self.new result }
-        ensures shaped { IsInRows (J.lanes joint.now) (length (J.arena joint.now).nodes) self.new.audit.left }
+        ensures shaped { IsTableOf (J.arena joint.now) (J.lanes joint.now) self.new.audit.left }
         ensures lines { self.new.lines ≤ self.old.lines + 1 }
     {
         if self.line.is_empty() {
@@ -242,7 +244,7 @@ impl Reader {
         start: u32,
         steps: &mut Steps<L>,
     ) -> Verdict
-        requires shaped { IsInRows (J.lanes joint.now) (length (J.arena joint.now).nodes) self.old.audit.left }
+        requires shaped { IsTableOf (J.arena joint.now) (J.lanes joint.now) self.old.audit.left }
         requires room { self.old.lines ≤ MAX_CERTIFICATE_BYTES }
         requires start { start < length (J.arena joint.now).nodes }
         ensures { Decides (J.arena joint.now) start (λ bytes. IsReading (J.arena joint.now) bytes self.old) result }

@@ -82,7 +82,8 @@ impl Remaining {
     pub(crate) fn has(&self, row: u32, lane: u32) -> bool
         requires row { row < length self.now.words.items }
         requires lane { lane < self.now.lanes }
-        ensures { (pairs p : ℕ) (gone : ℕ → Bool) → row * self.now.lanes + lane ≡ p → Remain pairs gone self.now → result ≡ not (gone p) }
+        ensures { (pairs p : ℕ) (gone : ℕ → Bool) → row * self.now.lanes + lane ≡ p → Remain pairs gone self.now →
+            result ≡ not (gone p) }
     {
         has_lane(self.words[row as usize], lane)
     }
@@ -93,7 +94,8 @@ impl Remaining {
     pub(crate) fn has_known(&self, row: u32, lane: u32, known: u64) -> bool
         requires row { row < length self.now.words.items }
         requires lane { lane < self.now.lanes }
-        ensures { (pairs p : ℕ) (gone : ℕ → Bool) → row * self.now.lanes + lane ≡ p → Remain pairs gone self.now → IsTrue result → IsTrue (is_on known lane) × IsTrue (not (gone p)) }
+        ensures { (pairs p : ℕ) (gone : ℕ → Bool) → row * self.now.lanes + lane ≡ p → Remain pairs gone self.now →
+            IsTrue result → IsTrue (is_on known lane) × IsTrue (not (gone p)) }
     {
         has_lane(known & self.words[row as usize], lane)
     }

@@ -1,5 +1,6 @@
 -- Runs that end for want of memory for their words.
-use Rattle.std.proofs.Common.{ℕ, List, None, Option, Some, IfSome, inr, refl}
+use Rattle.roman_opening.proofs.CallerLemmas.{told_all}
+use Rattle.std.proofs.Common.{ℕ, List, Option, inr, refl}
 use Rattle.roman_cli.specs.Running.{ServesArguments}
 use Rattle.roman_top.specs.Command.{Command}
 use Rattle.roman_top.specs.Complete.{AnswersWherePossible, CanAnswer, IsAnswered}
@@ -8,13 +9,8 @@ use Rattle.roman_top.specs.Run.{texts_for}
 use Rattle.roman_top.specs.World.{World}
 use Rattle.roman_opening.specs.declared.status.Status.TheVariants as status
 
--- what holds of each value holds of an optional one
-of_each : {X : Type 0} (x : Option X) (P : X → Type 0) → ((y : X) → P y) → IfSome x P
-of_each None P each = tt
-of_each (Some y) P each = each y
-
 pub answers_out : (asked : Option Command) (old new : World) → AnswersWherePossible asked old new status.Memory
-answers_out asked old new quiet = of_each (texts_for asked old.texts) (λ texts. CanAnswer asked texts old.rest → IsAnswered status.Memory) (λ texts can. tt)
+answers_out asked old new quiet = told_all (texts_for asked old.texts) (λ texts. CanAnswer asked texts old.rest → IsAnswered status.Memory) (λ texts can. tt)
 
 pub headline_out : (asked : Option Command) (old new : World) → HasHeadline asked old new status.Memory
 headline_out asked old new free = absurd free

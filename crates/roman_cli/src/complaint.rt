@@ -3,9 +3,12 @@
 use crate::folder::{FolderShelf, Unread};
 use crate::output::StdSink;
 use crate::running::Ended;
-use roman_extent::{extent_of, is_within, product};
 use roman_io::Words;
+use roman_library::document;
+use roman_read::{member, text};
+use roman_start::{extent_of, is_within, product};
 use roman_top::Status;
+use std::alloc::Global;
 use std::io::{self, ErrorKind};
 
 /// Writes to standard error why a run ended with its status, unless the output explains it.
@@ -16,6 +19,7 @@ pub fn complain_of(
     out: &StdSink,
 ) -> io::Result<()> {
     match ended.status {
+        Status::Refused => complain_of_form(rt, &ended.words, shelf),
         Status::Limit => complain_of_size(rt, &ended.words, shelf),
         Status::ShelfFault => complain_of_file(rt, shelf.unread()),
         Status::WriteFault if out.is_closed() => Ok(()),
@@ -47,6 +51,38 @@ fn complain_of_file(rt: &HostRuntime, unread: Option<&Unread>) -> io::Result<()>
         ErrorKind::NotFound => eprintln!(rt; "roman: {name}: there is no such file"),
         ErrorKind::IsADirectory => eprintln!(rt; "roman: {name}: it is a folder"),
         kind => eprintln!(rt; "roman: {name}: it couldn't be read ({kind})"),
+    }
+}
+
+/// Writes what to do with a document in the short form, which the program refuses.
+fn complain_of_form(
+    rt: &HostRuntime,
+    words: &Words,
+    shelf: &mut FolderShelf<'_, HostRuntime>,
+) -> io::Result<()> {
+    if words.len() < 2 {
+        return Ok(());
+    }
+    let name = words.at(1);
+    if !is_short(rt.alloc(), name, shelf) {
+        return Ok(());
+    }
+    eprintln!(rt;
+        "roman: {name} is in the short form; roman-expand {name} -o plain.json writes the plain one"
+    )
+}
+
+/// Returns whether the document can be read and says that it is in the short form.
+fn is_short(alloc: Global, name: &str, shelf: &mut FolderShelf<'_, HostRuntime>) -> bool {
+    let Ok(document) = document(alloc, shelf, name) else {
+        return false;
+    };
+    let Ok(roman) = member(&document, "roman") else {
+        return false;
+    };
+    match text(roman) {
+        Ok(form) => form == "short",
+        Err(_) => false,
     }
 }
 

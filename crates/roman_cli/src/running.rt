@@ -5,8 +5,8 @@ ghost use Rattle.roman_cli.specs.Running.{asked_by, words_after_name, ServesArgu
 ghost use Rattle.roman_top.specs.Complete.{AnswersWherePossible};
 ghost use Rattle.roman_top.specs.Faults.{TakesInput};
 ghost use Rattle.roman_top.specs.Headline.{HasHeadline};
+ghost use Rattle.roman_top.specs.World.{world_of};
 ghost use Rattle.roman_opening.specs.Numbers.{status_number};
-ghost use Rattle.roman_top.specs.World.{world};
 
 use roman_io::{Shelf, Sink, Source, Steps, Words};
 use roman_top::{Status, serve};
@@ -60,17 +60,17 @@ pub fn run<F: Shelf, I: Source, O: Sink, L: Ledger>(
 
     // What `serve` promises of the words after the program's name, of which none is left out.
     ensures served { ServesArguments (map string_bytes (into_iter_items args))
-        (world (F.texts shelf.old) (F.faults shelf.old) (I.rest input.old) (I.faults input.old) (O.written out.old) (O.faults out.old))
-        (world (F.texts shelf.new) (F.faults shelf.new) (I.rest input.new) (I.faults input.new) (O.written out.new) (O.faults out.new)) result.status }
+        (world_of F.Shelf I.Source O.Sink shelf.old input.old out.old)
+        (world_of F.Shelf I.Source O.Sink shelf.new input.new out.new) result.status }
     ensures headline { HasHeadline (asked_by (map string_bytes (into_iter_items args)))
-        (world (F.texts shelf.old) (F.faults shelf.old) (I.rest input.old) (I.faults input.old) (O.written out.old) (O.faults out.old))
-        (world (F.texts shelf.new) (F.faults shelf.new) (I.rest input.new) (I.faults input.new) (O.written out.new) (O.faults out.new)) result.status }
+        (world_of F.Shelf I.Source O.Sink shelf.old input.old out.old)
+        (world_of F.Shelf I.Source O.Sink shelf.new input.new out.new) result.status }
     ensures complete { AnswersWherePossible (asked_by (map string_bytes (into_iter_items args)))
-        (world (F.texts shelf.old) (F.faults shelf.old) (I.rest input.old) (I.faults input.old) (O.written out.old) (O.faults out.old))
-        (world (F.texts shelf.new) (F.faults shelf.new) (I.rest input.new) (I.faults input.new) (O.written out.new) (O.faults out.new)) result.status }
+        (world_of F.Shelf I.Source O.Sink shelf.old input.old out.old)
+        (world_of F.Shelf I.Source O.Sink shelf.new input.new out.new) result.status }
     ensures input { (input.new ≡ input.old) ⊎ TakesInput (asked_by (map string_bytes (into_iter_items args)))
-        (world (F.texts shelf.old) (F.faults shelf.old) (I.rest input.old) (I.faults input.old) (O.written out.old) (O.faults out.old))
-        (world (F.texts shelf.new) (F.faults shelf.new) (I.rest input.new) (I.faults input.new) (O.written out.new) (O.faults out.new)) result.status }
+        (world_of F.Shelf I.Source O.Sink shelf.old input.old out.old)
+        (world_of F.Shelf I.Source O.Sink shelf.new input.new out.new) result.status }
 {
     let mut steps = Steps::<L>::new(blank);
     match words_of(alloc, args) {

@@ -1,5 +1,5 @@
 -- Loops that keep the best seat so far.
-use Rattle.roman_cost.proofs.Common.{◌≡◌, ◌≢◌, ℕ, ◌+◌, Bool, true, false, List, [], ◌∷◌, ◌++◌, Option, Some, None, filter, refl, ap, ◌∙◌, add-one, append-nil, arith, below, has, least_from, first_least, same_test, filter_in, in_filter, filter_below_more, number_listed, filter_same, least_from_push, listed_number, better_of}
+use Rattle.roman_cost.proofs.Common.{◌≡◌, ◌≢◌, ℕ, ◌+◌, Bool, true, false, List, [], ◌∷◌, ◌++◌, Option, Some, None, filter, refl, ap, add-one, append-nil, arith, below, has, least_from, first_least, same_test, filter_in, in_filter, filter_below_more, number_listed, filter_same, least_from_push, listed_number, better_of}
 
 -- the first of the cheapest elements of a list, with its value
 abbrev pub best_of : (ℕ → ℕ) → List ℕ → Option (ℕ × ℕ)

@@ -1,5 +1,5 @@
 -- Listed costs, and their cells, and how many items a text lists.
-use Rattle.roman_cost.proofs.Common.{◌≡◌, ◌≢◌, ℕ, zero, suc, ◌+◌, ◌-◌, ◌*◌, ◌<◌, ◌≤◌, List, [], ◌∷◌, ◌++◌, length, get_or, Option, Some, None, All, inl, inr, refl, sym, ap, ◌∙◌, ap₂, arith, ◌==◌, ◌&&◌, set, both_ways, cond-false, cond-true, cases_order, eq-eqb, eqb-true, and_parts, and_from, All-push, mul-add-lt, by_test, NamedSys, CostTable, listed_cost, seat_costs, HoldsCosts, cost_of, Listed, MAX_COST, items_len-items_view, option_or, get_or-set_same, get_or-set_other, length-set}
+use Rattle.roman_cost.proofs.Common.{◌≡◌, ◌≢◌, ℕ, zero, suc, ◌+◌, ◌-◌, ◌*◌, ◌<◌, ◌≤◌, List, [], ◌∷◌, ◌++◌, length, get_or, Option, Some, None, All, refl, sym, ap, ◌∙◌, ap₂, arith, ◌==◌, ◌&&◌, set, both_ways, cond-false, cond-true, eq-eqb, eqb-true, and_parts, and_from, All-push, mul-add-lt, by_test, NamedSys, CostTable, listed_cost, seat_costs, HoldsCosts, cost_of, Listed, MAX_COST, items_len-items_view, option_or, get_or-set_same, get_or-set_other, length-set, same_from_place}
 
 -- One item more.
 
@@ -7,20 +7,6 @@ pub listed_cost-push : (listed : List Listed) (item : Listed) (b a : ℕ) →
     listed_cost (listed ++ item ∷ []) b a ≡ option_or (listed_cost listed b a) (listed_cost (item ∷ []) b a)
 listed_cost-push [] item b a = refl
 listed_cost-push (x ∷ listed) item b a = grind (arith, (listed_cost-push listed item b a))
-
-option_or_none : {X : Type 0} (o : Option X) → option_or o None ≡ o
-option_or_none None = refl
-option_or_none (Some x) = refl
-
--- two cells at one place are the same cell
-same_place : (n b a c d : ℕ) → a < n → d < n → b * n + a ≡ c * n + d → (b ≡ c) × (a ≡ d)
-same_place n b a c d la ld e = elim (cases_order b c) [
-  | inl same ↦ (same, let here : b * n ≡ c * n = ap (λ k. k * n) same in omega arith)
-  | inr other ↦ elim other [
-    | inl less ↦ (let l : b * n + a < n * c = mul-add-lt b n a c less la in absurd (omega arith))
-    | inr more ↦ (let l : c * n + d < n * b = mul-add-lt c n d b more ld in absurd (omega arith))
-  ]
-]
 
 cell-put : (n : ℕ) (listed : List Listed) (item : Listed) (cells : List (Option ℕ)) (b a : ℕ) → a < n → item.action < n → item.behaviour * n + item.action < length cells →
     listed_cost listed item.behaviour item.action ≡ None → get_or cells (b * n + a) None ≡ listed_cost listed b a →
@@ -38,10 +24,11 @@ cell-put n listed item cells b a la li within new before = by_test (item.behavio
     (λ f.
     let one : listed_cost (item ∷ []) b a ≡ None = cond-false (item.behaviour == b && item.action == a) (Some item.cost) None f in
     let apart : b * n + a ≢ item.behaviour * n + item.action = λ e.
-    let (eb, ea) = same_place n b a item.behaviour item.action la li e in
+    let (eb, ea) = same_from_place b a item.behaviour item.action n la li e in
     both_ways (item.behaviour == b && item.action == a) f (and_from (item.behaviour == b) (item.action == a) (eq-eqb item.behaviour b (sym eb)) (eq-eqb item.action a (sym ea))) in
     get_or-set_other cells (item.behaviour * n + item.action) (b * n + a) (Some item.cost) None apart ∙ before
-    ∙ sym (listed_cost-push listed item b a ∙ ap (option_or (listed_cost listed b a)) one ∙ option_or_none (listed_cost listed b a)))
+    ∙ sym (listed_cost-push listed item b a ∙ ap (option_or (listed_cost listed b a)) one
+    ∙ elim (listed_cost listed b a) as (λ o. option_or o None ≡ o) [ None ↦ refl | Some x ↦ refl ]))
 
 pub HoldsCosts-put : (table : CostTable) (cells after : List (Option ℕ)) (item : Listed) → HoldsCosts table cells → item.behaviour < table.behaviours → item.action < table.actions →
     item.cost ≤ MAX_COST → listed_cost table.listed item.behaviour item.action ≡ None →

@@ -1,17 +1,8 @@
 -- The text of advice, one line after the other.
-use Rattle.roman_cost.proofs.Common.{◌≡◌, ℕ, suc, ◌+◌, ◌-◌, ◌<◌, ◌≤◌, List, [], ◌∷◌, ◌++◌, IsTrue, IsFalse, codes, decimal, length, drop, map, get_or, slice_get, Option, Some, refl, sym, ap, ap₂, ◌∙◌, arith, add-one, append_assoc, flat_map, cond-true, cond-false, length-map, get_or-map, drop_all, below, Sys, Pair, IsSys, is_allowed, sizes_of, count, pair_at, is_related, Costs, allowed_actions, least, least_at, choice, through, related_great, length-below, get_or-below, numbers_are_pairs, choice_is, IsFilling, fill_whole, fill_same, NamedSys, system_of, seat_of, worst_line, choice_line, value_line, value_lines, certificate_text, advice_text, value_head, value_tail, service_text, seat_costs, Listed, Seat, option_map, drop-cons, slice_get-map, get_or_from_slice_get, name_at, seat_name}
+use Rattle.roman_cost.proofs.Common.{◌≡◌, ℕ, suc, ◌+◌, ◌-◌, ◌<◌, ◌≤◌, List, [], ◌∷◌, ◌++◌, IsTrue, IsFalse, codes, decimal, length, drop, map, get_or, slice_get, Option, Some, refl, sym, ap, ◌∙◌, arith, add-one, append_assoc, flat_map, cond-true, cond-false, length-map, get_or-map, below, Sys, Pair, IsSys, is_allowed, sizes_of, count, pair_at, is_related, Costs, allowed_actions, least, least_at, choice, through, related_great, numbers_are_pairs, choice_is, IsFilling, fill_whole, fill_same, NamedSys, system_of, seat_of, worst_line, choice_line, value_line, value_lines, certificate_text, advice_text, value_head, value_tail, service_text, seat_costs, Listed, Seat, option_map, drop-cons, slice_get-map, get_or_from_slice_get, name_at, seat_name, from_place, from_end}
 use Rattle.std.specs.List.{filter}
 use Rattle.std.proofs.lemmas.List.{append-nil}
 use Rattle.roman_cost.proofs.OfferedSeats.{offered}
-
--- the places from k on
-from_place : (n k : ℕ) → k < n → drop k (below n) ≡ k ∷ drop (k + 1) (below n)
-from_place n k l =
-    let within : k < length (below n) = omega (arith, length-below n) in
-    drop-cons (below n) k 0 within ∙ ap₂ (λ (x j : ℕ). x ∷ drop j (below n)) (get_or-below n k 0 l) (sym (add-one k))
-
-from_end : (n k : ℕ) → n ≤ k → drop k (below n) ≡ []
-from_end n k l = drop_all k (below n) (omega (arith, length-below n))
 
 -- the name of the seat at a place
 named : (seats : List Seat) (k : ℕ) (seat : Seat) → slice_get seats k ≡ Some seat → name_at (map seat_name seats) k ≡ seat.name

@@ -1,8 +1,8 @@
 -- The offered seats of a related pair: each has outcomes, all of them are related, and its cost is the one that the definition gives.
-use Rattle.roman_cost.proofs.Common.{Outcomes, AreOutcomes, IsCostRow, IsOffered, ranked, IsRanked, IsPairWith, outcome_number, outcome_numbers, Sizes, sizes_of, count, pair_at, number, numbered, MAX_CELLS, in_flat_map, from_map, in_map, not_empty_in, ne_not_empty, outcome_pair, great_related, offer_is, numbers_are_pairs, max_over_le, number_listed, not_empty_ne, in_not_empty, outcome_seat, through_numbered, max_over_same, least_bound, related_great, related_offers, get_or, ◌≡◌, ◌≢◌, ℕ, suc, ◌+◌, ◌*◌, ◌<◌, ◌≤◌, Bool, List, [], ◌∷◌, map, length, filter, slice_index, inl, inr, IsTrue, All, refl, sym, ap, ◌∙◌, subst, arith, Option, Some, ◌^◌, IsIn, below, Sys, Pair, IsSys, IsPair, has, outcomes, is_allowed, is_related, offers, Costs, max_over, least, least_at, choice, through, cond-true, has_seat_is, related_pairs, MAX_COST, HasBits, has_seat, length-map, NamedSys, system_of, seat_of}
+use Rattle.roman_cost.proofs.Common.{Outcomes, AreOutcomes, IsCostRow, IsOffered, ranked, IsRanked, IsPairWith, outcome_number, outcome_numbers, Sizes, sizes_of, count, pair_at, number, numbered, MAX_CELLS, in_flat_map, from_map, in_map, not_empty_in, ne_not_empty, outcome_pair, great_related, offer_is, numbers_are_pairs, max_over_le, number_listed, not_empty_ne, in_not_empty, outcome_seat, through_numbered, max_over_same, least_bound, related_great, related_offers, get_or, ◌≡◌, ◌≢◌, ℕ, ◌+◌, ◌*◌, ◌<◌, ◌≤◌, Bool, List, [], ◌∷◌, map, length, filter, slice_index, IsTrue, All, refl, sym, ap, ◌∙◌, subst, arith, Option, Some, ◌^◌, IsIn, below, Sys, Pair, IsSys, IsPair, has, outcomes, is_allowed, is_related, offers, Costs, max_over, least, least_at, choice, through, cond-true, has_seat_is, related_pairs, MAX_COST, HasBits, has_seat, length-map, NamedSys, system_of, seat_of, in_at, all_in, no_numbers}
 use Rattle.std.proofs.Common.{flat_map}
 use Rattle.roman_cost.proofs.Best.{best_of, best_of-first, filter_has}
-use Rattle.roman_cost.proofs.Rows.{all_from, in_at}
+use Rattle.roman_cost.proofs.Rows.{all_from}
 use Rattle.roman_cost.proofs.Ranks.{in_related, ranked_value}
 
 -- an offered seat has outcomes, and leads only to related pairs
@@ -72,18 +72,8 @@ best_chosen n C h p a k best ok l related allowed end is =
 
 -- if a delegation has outcomes, the seat goes to some state
 states_some : (g : ℕ → ℕ → ℕ) (envs states : List ℕ) → flat_map (λ e. map (g e) states) envs ≢ [] → 0 < length states
-states_some g envs [] some = absurd (some (none envs))
-  where
-    none : (es : List ℕ) → flat_map (λ e. map (g e) []) es ≡ []
-    none [] = refl
-    none (e ∷ es) = none es
+states_some g envs [] some = absurd (some (no_numbers g envs [] refl))
 states_some g envs (b ∷ states) some = omega arith
-
--- a property of all elements holds of each
-all_in : {X : Type 0} (P : X → Type 0) (xs : List X) (x : X) → All P xs → IsIn x xs → P x
-all_in P [] x each i = absurd i
-all_in P (y ∷ xs) x each (inl e) = subst P (sym e) (each 0 y (omega arith))
-all_in P (y ∷ xs) x each (inr i) = all_in P xs x (λ k d l. each (suc k) d (omega arith)) i
 
 -- the outcomes of a delegation have 32 bits, and each property of all of them
 pub are_outcomes : (n : Sizes) (k : ℕ) (P : ℕ → Type 0) (o : Outcomes) (numbers : List ℕ) → numbers ≡ outcome_numbers o → numbers ≢ [] → All P numbers →

@@ -1,5 +1,5 @@
 -- The plans by offers are those by seats that serve, and their worst-case costs are the greatest that can occur.
-use Rattle.roman_cost.proofs.Common.{◌≡◌, ℕ, zero, suc, ◌+◌, ◌<◌, ◌≤◌, List, [], ◌∷◌, IsTrue, inl, inr, refl, sym, ap, ◌∙◌, subst, arith, ◌⊎◌, max, IsIn, below, Sys, Pair, IsSys, IsPair, Allows, outcomes, is_allowed, Great, couple, Serves, GreatCouple, offers, Costs, max_over, allowed_actions, least, through, choice, Plan, Leaf, Node, IsPlan, worst, chosen, by_test, in_filter, in_below, not_empty_in, ne_not_empty, allowed_in_range, from_allowed, outcome_pair, offer_is, choice_is, allowed_in, outcome_in, from_outcome, offers_are, plans_least, le-max_left, le-max_right, max-le, leb-true, leb-false, slice_get_within, LeadsTo, IsServingPlan, Event, MayCome, cost_of_events, IsWorstCost, IsLeastCost, CostsBy, IsCheapest}
+use Rattle.roman_cost.proofs.Common.{◌≡◌, ℕ, zero, suc, ◌+◌, ◌<◌, ◌≤◌, List, [], ◌∷◌, IsTrue, inl, inr, refl, sym, ap, ◌∙◌, subst, arith, ◌⊎◌, max, IsIn, below, Sys, Pair, IsSys, IsPair, Allows, outcomes, is_allowed, Great, couple, Serves, GreatCouple, offers, Costs, max_over, allowed_actions, least, through, choice, Plan, Leaf, Node, IsPlan, worst, chosen, by_test, in_filter, in_below, not_empty_in, ne_not_empty, allowed_in_range, from_allowed, outcome_pair, offer_is, choice_is, allowed_in, outcome_in, from_outcome, offers_are, plans_least, le-max_left, le-max_right, max-le, leb-true, leb-false, slice_get_within, LeadsTo, IsServingPlan, Event, MayCome, cost_of_events, IsWorstCost, IsLeastCost, CostsBy, IsCheapest, le_max_over}
 
 -- Plans.
 
@@ -38,11 +38,6 @@ offered_plan s (suc h) p (Node seat next) ok pair is = λ a allowed.
 
 -- The greatest value over a list.
 
-at_most_max : {X : Type 0} (f : X → ℕ) (x : X) (xs : List X) → IsIn x xs → f x ≤ max_over f xs
-at_most_max f x [] i = absurd i
-at_most_max f x (y ∷ xs) (inl e) = subst (λ z. f z ≤ max (f y) (max_over f xs)) (sym e) (le-max_left (f y) (max_over f xs))
-at_most_max f x (y ∷ xs) (inr i) = grind (arith, le-max_right, (at_most_max f x xs i))
-
 max_is_one : (m n : ℕ) → (max m n ≡ m) ⊎ (max m n ≡ n)
 max_is_one m n = grind (arith, by_test, le-max_left, le-max_right, leb-false, leb-true, max-le)
 
@@ -54,7 +49,7 @@ max_of_one f (x ∷ xs) = grind (arith, max_is_one, (max_of_one f xs))
 max_of_some : {X : Type 0} (f : X → ℕ) (xs : List X) (x : X) → IsIn x xs → (y : X) × IsIn y xs × (f y ≡ max_over f xs)
 max_of_some f xs x i = elim (max_of_one f xs) [
   | inl found ↦ found
-  | inr none ↦ let l : f x ≤ max_over f xs = at_most_max f x xs i in (x, i, omega arith)
+  | inr none ↦ let l : f x ≤ max_over f xs = le_max_over f x xs i in (x, i, omega arith)
 ]
 
 -- Worst-case costs.
@@ -74,9 +69,9 @@ worst_within s C p Leaf ok (m ∷ ms) may = absurd may
 worst_within s C p (Node seat next) ok (m ∷ ms) (moves, may) =
     let rest : cost_of_events C (next m.action m.to) ms ≤ worst s C m.to (next m.action m.to) = worst_within s C m.to (next m.action m.to) ok ms may in
     let here : cost_at s C p seat next m.action m.to ≤ max_over (cost_at s C p seat next m.action) (outcomes s p m.action (seat m.action)) =
-    at_most_max (cost_at s C p seat next m.action) m.to (outcomes s p m.action (seat m.action)) (moves_in s p m.action (seat m.action) m.to ok moves) in
+    le_max_over (cost_at s C p seat next m.action) m.to (outcomes s p m.action (seat m.action)) (moves_in s p m.action (seat m.action) m.to ok moves) in
     let whole : max_over (cost_at s C p seat next m.action) (outcomes s p m.action (seat m.action)) ≤ worst s C p (Node seat next) =
-    at_most_max (λ a. max_over (cost_at s C p seat next a) (outcomes s p a (seat a))) m.action (allowed_actions s p) (in_allowed s p m.action ok (m.to.t, m.to.e, moves.0)) in
+    le_max_over (λ a. max_over (cost_at s C p seat next a) (outcomes s p a (seat a))) m.action (allowed_actions s p) (in_allowed s p m.action ok (m.to.t, m.to.e, moves.0)) in
     omega arith
 
 abbrev Attains : Sys → Costs → Pair → Plan → ℕ → Type 0
@@ -125,7 +120,7 @@ through_costs s C rest p a k ok pair allowed offered =
     let (x, i) = not_empty_in (outcomes s p a k) (ne_not_empty (outcomes s p a k) some) in
     let (q, j, e) = max_of_some rest (outcomes s p a k) x i in
     record {
-      within = λ r moves. let l : rest r ≤ max_over rest (outcomes s p a k) = at_most_max rest r (outcomes s p a k) (moves_in s p a k r ok moves) in omega arith;
+      within = λ r moves. let l : rest r ≤ max_over rest (outcomes s p a k) = le_max_over rest r (outcomes s p a k) (moves_in s p a k r ok moves) in omega arith;
       some = (q, from_outcome s p a k q j, ap (λ n. C k a + n) e);
     }
 

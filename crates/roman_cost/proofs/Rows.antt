@@ -1,11 +1,5 @@
 -- Rows of values: their places and their bounds.
-use Rattle.roman_cost.proofs.Common.{◌≡◌, ℕ, zero, suc, ◌+◌, ◌-◌, ◌*◌, ◌<◌, ◌≤◌, List, [], ◌∷◌, ◌++◌, map, length, get_or, take, drop, All, refl, sym, ap, ap₂, ◌∙◌, inl, inr, arith, append_assoc, append-nil, replicate, slice_range, subst, length-drop, length-map, take_more, map_push, take-append-le, drop-append-le, IsIn, Sys, IsSys, Costs, least_at, flat_map_row, length_rows, related_pairs, value_rows, AdviceTable, Advises, HavePlaces, IsCostRow, MAX_COST, MAX_REQUESTS, mul-le-mul_left, take-nil, take-length, drop-append_seam, cases_eq}
-
--- the element at a place is in the list
-pub in_at : {X : Type 0} (xs : List X) (i : ℕ) (d : X) → i < length xs → IsIn (get_or xs i d) xs
-in_at [] i d l = absurd (omega arith)
-in_at (x ∷ xs) zero d l = inl refl
-in_at (x ∷ xs) (suc i) d l = inr (in_at xs i d (omega arith))
+use Rattle.roman_cost.proofs.Common.{◌≡◌, ℕ, zero, suc, ◌+◌, ◌-◌, ◌*◌, ◌<◌, ◌≤◌, List, [], ◌∷◌, ◌++◌, map, length, get_or, take, drop, All, refl, sym, ap, ap₂, ◌∙◌, inl, inr, arith, append_assoc, append-nil, replicate, slice_range, subst, length-drop, length-map, take_more, map_push, take-append-le, drop-append-le, IsIn, Sys, IsSys, Costs, least_at, flat_map_row, length_rows, related_pairs, value_rows, AdviceTable, Advises, HavePlaces, IsCostRow, MAX_COST, MAX_REQUESTS, mul-le-mul_left, take-nil, take-length, drop-append_seam, cases_eq, in_at}
 
 pub all_from : {X : Type 0} (P : X → Type 0) (xs : List X) → ((x : X) → IsIn x xs → P x) → All P xs
 all_from P xs each k d l = each (get_or xs k d) (in_at xs k d l)

@@ -1,5 +1,5 @@
 -- The values of the terms of related pairs.
-use Rattle.roman_cost.proofs.Common.{◌≡◌, ◌≢◌, ℕ, suc, ◌+◌, ◌-◌, ◌*◌, ◌<◌, ◌≤◌, Bool, true, false, List, [], ◌∷◌, ◌++◌, map, length, take, drop, filter, Option, Some, None, unwrap_or, IsTrue, refl, sym, ap, ap₂, ◌∙◌, inl, inr, subst, arith, append_assoc, append-nil, max, min, flat_map, take_all, length-drop, take-append-drop, map-append, IsIn, below, Sys, Pair, is_allowed, sizes_of, pair_at, numbered, offers, Costs, max_over, least_from, first_least, least, least_at, choice, through, allowed_actions, filter_in, related_great, numbers_are_pairs, related_offers, in_append_left, in_append_right, related_pairs, ranked, IsOffered, IsCostRow, nothing_yet, worked_out, outcome_terms, service_terms, action_terms, pair_terms, cheaper_of, Term, Standing, flat_map-append}
+use Rattle.roman_cost.proofs.Common.{◌≡◌, ◌≢◌, ℕ, suc, ◌+◌, ◌-◌, Bool, true, false, List, [], ◌∷◌, ◌++◌, map, length, take, drop, filter, Option, Some, None, unwrap_or, IsTrue, refl, sym, ap, ap₂, ◌∙◌, inl, inr, subst, arith, append_assoc, append-nil, max, min, flat_map, take-append-drop, map-append, IsIn, below, Sys, Pair, is_allowed, sizes_of, pair_at, numbered, offers, Costs, max_over, least_from, first_least, least, least_at, choice, through, allowed_actions, filter_in, related_great, numbers_are_pairs, related_offers, in_append_right, related_pairs, ranked, IsOffered, IsCostRow, nothing_yet, worked_out, outcome_terms, service_terms, action_terms, pair_terms, cheaper_of, Term, Standing, flat_map-append, rest_is}
 use Rattle.roman_cost.specs.declared.terms.Term.TheVariants as term
 use Rattle.roman_cost.proofs.OfferedSeats.{cost_is, through_fits, offered}
 use Rattle.roman_cost.proofs.Best.{filter_taken, filter_passed}
@@ -106,15 +106,8 @@ module _ (s : Sys) (C : Costs) (h : ℕ) (ranks row : List ℕ) (known : IsCostR
       worked ∙ ap (λ ts. values ++ worked_out row ts nothing_yet) (made ∙ ap (λ ts. ts ++ pair_terms s C ranks p) empty ∙ sym (append-nil (pair_terms s C ranks p)))
       ∙ ap (λ vs. values ++ vs) (worked_pairs (p ∷ []) (λ q j. elim j [ inl e ↦ subst (λ m. IsIn m (related_pairs s)) (sym e) i | inr none ↦ absurd none ]))
 
--- the elements after the first ones
-pub rest_is : (xs : List ℕ) (n : ℕ) → take (length xs - n) (drop n xs) ≡ drop n xs
-rest_is xs n = take_all (length xs - n) (drop n xs) (omega (arith, length-drop n xs))
-
 pub rest_in : (xs : List ℕ) (n p : ℕ) → IsIn p (take (length xs - n) (drop n xs)) → IsIn p xs
 rest_in xs n p i = subst (IsIn p) (take-append-drop n xs) (in_append_right p (take n xs) (drop n xs) (subst (IsIn p) (rest_is xs n) i))
-
-pub take_in : (xs : List ℕ) (n p : ℕ) → IsIn p (take n xs) → IsIn p xs
-take_in xs n p i = subst (IsIn p) (take-append-drop n xs) (in_append_left p (take n xs) (drop n xs) i)
 
 -- the values of the first pairs and of the others are those of all
 pub values_whole : (f : ℕ → ℕ) (pairs none first all : List ℕ) (n : ℕ) → none ≡ [] → first ≡ none ++ map f (take n pairs) → all ≡ first ++ map f (take (length pairs - n) (drop n pairs)) → all ≡ map f pairs

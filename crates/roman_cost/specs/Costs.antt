@@ -42,6 +42,16 @@ costs_in behaviours actions d = do
   few ← check (nat_le (items_len items) MAX_COSTS) kind.Count list.Whole 0 items
   each_item (cost_step behaviours actions) 0 [] few
 
+-- the same for the behaviours and actions of a system
+abbrev pub item_for : NamedSys → ℕ → Data → Result Listed PartError
+item_for n = cost_item (map beh_name n.catalogue) n.environment.actions
+
+abbrev pub step_for : NamedSys → ℕ → List Listed → Data → Result (List Listed) PartError
+step_for n = cost_step (map beh_name n.catalogue) n.environment.actions
+
+abbrev pub costs_for : NamedSys → Data → Result (List Listed) PartError
+costs_for n = costs_in (map beh_name n.catalogue) n.environment.actions
+
 -- the value of a text within its limit
 unfoldable pub value_of : Texts → List ℕ → Result Data PartError
 value_of texts name =

@@ -6,5 +6,6 @@ pub mod Advised
 pub mod Filling
 pub mod Terms
 pub mod AdviceText
+pub mod NamedWords
 pub mod ServingPlans
 pub mod Laws

@@ -1,23 +1,23 @@
 //! Computes advice: the least worst-case costs of requests.
-ghost use Rattle.std.specs.Prelude.{◌≡◌, ◌+◌, ◌-◌, ◌*◌, ◌<◌, ◌≤◌, ◌↔◌, map, length, Err, IfOk, IsTrue};
+ghost use Rattle.std.specs.Prelude.{◌≡◌, ◌-◌, ◌*◌, ◌<◌, ◌≤◌, ◌↔◌, map, length, Err, IfOk};
 ghost use Rattle.roman_model.specs.Lists.{IsIn};
 ghost use Rattle.roman_model.specs.System.{Sys};
-ghost use Rattle.roman_model.specs.SystemArena.{is_allowed};
-ghost use Rattle.roman_model.specs.Numbers.{sizes_of, count, pair_at};
-ghost use Rattle.roman_model.specs.Offers.{is_related, related_count};
-ghost use Rattle.roman_model.specs.Plans.{Costs, least, least_at, choice, through};
+ghost use Rattle.roman_model.specs.Offers.{related_count};
+ghost use Rattle.roman_model.specs.Plans.{least_at};
 ghost use Rattle.roman_model.specs.Plans as plans;
 ghost use Rattle.roman_joint.specs.NamedSys.{system_of};
 ghost use Rattle.roman_relation.specs.Greatest.{IsRelation};
 ghost use Rattle.roman_cost.specs.Advised.{Advises};
-ghost use Rattle.roman_cost.specs.Tables.{seat_costs, AreOf};
+ghost use Rattle.roman_cost.specs.NamedWords.{CanAdvise, AllowsAt, AdvisesFor, seat_for, cost_for};
+ghost use Rattle.roman_cost.specs.Tables.{AreOf};
 ghost use Rattle.roman_cost.specs.declared.error.AdviceError.TheVariants as error;
 
 use crate::costs::Costs;
 use crate::error::AdviceError;
-use crate::filling::{first_terms, push_row, ranked_pairs, row_of};
+use crate::filling::{first_terms, ranked_pairs, row_of, work_out_others};
 use crate::limits::{MAX_REQUESTS, MAX_VALUES};
 use crate::seats::{better, cost_through};
+use crate::terms::work_out;
 use roman_generator::offers;
 use roman_relation::Relation;
 use std::alloc::Global;
@@ -78,10 +78,10 @@ impl Advice {
         requires requests { (0 < h) × (h ≤ MAX_REQUESTS) }
         ensures limit { (result ≡ Err error.Limit) ↔ (MAX_VALUES < related_count (system_of relation.now.joint) * h) }
         ensures requests { IfOk result (λ advice. advice.requests ≡ h) }
-        ensures advises { IfOk result
-            (Advises (system_of relation.now.joint) (seat_costs relation.now.joint costs.now.listed)) }
+        ensures advises { IfOk result (AdvisesFor relation.now.joint costs.now) }
     {
         costs.known(); // no cost is greater than MAX_COST
+        relation.joint.known(); // the system is well formed
         let count = relation.count();
         if u64::from(count) * u64::from(h) > u64::from(MAX_VALUES) {
             return Err(AdviceError::Limit);
@@ -93,18 +93,12 @@ impl Advice {
         let mut next = Vec::with_capacity(alloc, pairs.len())?;
         let mut spare = Vec::new(alloc);
         for done in 0..h {
-            push_row(
-                &mut values,
-                relation,
-                costs,
-                &pairs,
-                &ranks,
-                &terms,
-                told,
-                &mut next,
-                &mut spare,
-                done,
-            )?;
+            let row = row_of(&values, done as usize, pairs.len());
+            let others = &pairs[told..];
+            next.clear();
+            work_out(&terms, row, &mut next)?;
+            work_out_others(relation, costs, others, &ranks, row, &mut next, &mut spare)?;
+            values.extend_from_slice(&next)?;
         }
         Ok(Advice {
             requests: h,
@@ -144,7 +138,8 @@ impl Advice {
     #[tactic(auto, using(crate::proofs::Rows::table_row))]
     pub(crate) fn row(&self, h: u8) -> &[u32]
         requires { h ≤ self.now.requests }
-        ensures row { (s : Sys) (C : plans.Costs) → Advises s C self.now → result.now ≡ map (least_at s C h) self.now.pairs }
+        ensures row { (s : Sys) (C : plans.Costs) → Advises s C self.now
+            → result.now ≡ map (least_at s C h) self.now.pairs }
         ensures len { length result.now ≡ length self.now.pairs }
     {
         row_of(&self.values, h as usize, self.pairs.len())
@@ -156,19 +151,11 @@ impl Advice {
     /// allows the action at the pair, the relation and the costs of [`build`](Advice::build), and
     /// `h` from 1 to the number of requests for which the advice was built. Allocates no memory.
     pub fn choice(&self, relation: &Relation, costs: &Costs, h: u8, p: u32, a: u8) -> (u8, u32)
-        requires relation { IsRelation relation.now.joint relation.now.order }
-        requires costs { AreOf relation.now.joint costs.now }
-        requires advises { Advises (system_of relation.now.joint) (seat_costs relation.now.joint costs.now.listed) self.now }
+        requires known { CanAdvise relation.now costs.now self.now p }
         requires requests { (0 < h) × (h ≤ self.now.requests) }
-        requires pair { p < count (sizes_of (system_of relation.now.joint)) }
-        requires related { IsTrue (is_related (system_of relation.now.joint) (pair_at (sizes_of (system_of relation.now.joint)) p)) }
-        requires allowed { IsTrue (is_allowed (system_of relation.now.joint) (pair_at (sizes_of (system_of relation.now.joint)) p) a) }
-        ensures seat { let s = system_of relation.now.joint in
-            let C = seat_costs relation.now.joint costs.now.listed in
-            result.0 ≡ choice s C (h - 1) (pair_at (sizes_of s) p) a }
-        ensures sum { let s = system_of relation.now.joint in
-            let C = seat_costs relation.now.joint costs.now.listed in
-            result.1 ≡ through s C (least s C (h - 1)) (pair_at (sizes_of s) p) a result.0 }
+        requires allowed { AllowsAt relation.now.joint p a }
+        ensures seat { result.0 ≡ seat_for relation.now.joint costs.now (h - 1) p a }
+        ensures sum { result.1 ≡ cost_for relation.now.joint costs.now (h - 1) p a result.0 }
     {
         relation.joint.known(); // the system is well formed
         costs.known(); // no cost is greater than MAX_COST

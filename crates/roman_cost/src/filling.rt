@@ -1,15 +1,10 @@
 //! Fills the tables of advice.
-ghost use Rattle.std.specs.Prelude.{◌≡◌, ℕ, suc, ◌+◌, ◌*◌, ◌<◌, ◌≤◌, ◌++◌, map, take, length, slice_range, IfOk, OnOk};
-ghost use Rattle.std.specs.List.{flat_map};
+ghost use Rattle.std.specs.Prelude.{◌≡◌, ℕ, suc, ◌+◌, ◌*◌, ◌≤◌, take, length, slice_range, IfOk};
 ghost use Rattle.roman_model.specs.Lists.{IsIn};
-ghost use Rattle.roman_model.specs.Plans.{least_at};
-ghost use Rattle.roman_joint.specs.NamedSys.{system_of};
 ghost use Rattle.roman_relation.specs.Greatest.{IsRelation};
-ghost use Rattle.roman_cost.specs.Advised.{related_pairs, value_rows, HavePlaces};
-ghost use Rattle.roman_cost.specs.Filling.{CanFill, IsCostRow};
-ghost use Rattle.roman_cost.specs.Tables.{seat_costs};
-ghost use Rattle.roman_cost.specs.Terms.{pair_terms};
-ghost use Rattle.roman_cost.specs.declared.limits.TheConstants.{MAX_REQUESTS};
+ghost use Rattle.roman_cost.specs.Advised.{HavePlaces};
+ghost use Rattle.roman_cost.specs.Filling.{CanFill};
+ghost use Rattle.roman_cost.specs.NamedWords.{related_numbers, terms_of_pairs, Appends, IsRowFor, values_for};
 
 use crate::costs::Costs;
 use crate::terms::{Term, push_pair, work_out};
@@ -27,8 +22,8 @@ pub(crate) fn ranked_pairs(
     room: usize,
 ) -> Result<(Vec<u32>, Vec<u32>), AllocError>
     requires { IsRelation relation.now.joint relation.now.order }
-    ensures pairs { IfOk result (λ made. made.0.items ≡ related_pairs (system_of relation.now.joint)) }
-    ensures ranks { IfOk result (λ made. HavePlaces (related_pairs (system_of relation.now.joint)) made.1.items) }
+    ensures pairs { IfOk result (λ made. made.0.items ≡ related_numbers relation.now.joint) }
+    ensures ranks { IfOk result (λ made. HavePlaces (related_numbers relation.now.joint) made.1.items) }
 {
     relation.joint.known(); // the system is well formed
     let count = relation.joint.shape().pairs();
@@ -53,10 +48,10 @@ pub(crate) fn first_terms(
     ranks: &[u32],
 ) -> Result<(Vec<Term>, usize), AllocError>
     requires known { CanFill relation.now costs.now ranks.now }
-    requires pairs { pairs.now ≡ related_pairs (system_of relation.now.joint) }
+    requires pairs { pairs.now ≡ related_numbers relation.now.joint }
     ensures within { IfOk result (λ made. made.1 ≤ length pairs.now) }
-    ensures terms { let n = relation.now.joint in IfOk result (λ made. made.0.items
-        ≡ flat_map (pair_terms (system_of n) (seat_costs n costs.now.listed) ranks.now) (take made.1 pairs.now)) }
+    ensures terms { IfOk result (λ made. made.0.items
+        ≡ terms_of_pairs relation.now.joint costs.now ranks.now (take made.1 pairs.now)) }
 {
     let mut terms = Vec::new(alloc);
     for (i, p) in pairs.iter().enumerate() {
@@ -68,45 +63,9 @@ pub(crate) fn first_terms(
     Ok((terms, pairs.len()))
 }
 
-/// Appends to `values` the next row, for `h + 1` requests. `terms` has the terms of the first
-/// `told` pairs. Computes the terms of the other pairs again, in `spare`. Fails only when out of
-/// memory.
-pub(crate) fn push_row(
-    values: &mut Vec<u32>,
-    relation: &Relation,
-    costs: &Costs,
-    pairs: &[u32],
-    ranks: &[u32],
-    terms: &[Term],
-    told: usize,
-    next: &mut Vec<u32>,
-    spare: &mut Vec<Term>,
-    h: u8,
-) -> Result<(), AllocError>
-    requires known { CanFill relation.now costs.now ranks.now }
-    requires pairs { pairs.now ≡ related_pairs (system_of relation.now.joint) }
-    requires told { told ≤ length pairs.now }
-    requires terms { let n = relation.now.joint in terms.now
-        ≡ flat_map (pair_terms (system_of n) (seat_costs n costs.now.listed) ranks.now) (take told pairs.now) }
-    requires few { h < MAX_REQUESTS }
-    requires rows { let n = relation.now.joint in values.old.items
-        ≡ value_rows (system_of n) (seat_costs n costs.now.listed) pairs.now (suc h) }
-    ensures rows { let n = relation.now.joint in OnOk result (values.new.items
-        ≡ value_rows (system_of n) (seat_costs n costs.now.listed) pairs.now (suc (suc h))) }
-{
-    costs.known(); // no cost is greater than MAX_COST
-    relation.joint.known(); // the system is well formed
-    let row = row_of(values, h as usize, pairs.len());
-    next.clear();
-    work_out(terms, row, next)?;
-    work_out_others(relation, costs, &pairs[told..], ranks, row, next, spare)?;
-    values.extend_from_slice(next)?;
-    Ok(())
-}
-
 /// Appends the values of the related pairs `others` for one request more than `row` has. Fails only
 /// when out of memory.
-fn work_out_others(
+pub(crate) fn work_out_others(
     relation: &Relation,
     costs: &Costs,
     others: &[u32],
@@ -116,10 +75,9 @@ fn work_out_others(
     spare: &mut Vec<Term>,
 ) -> Result<(), AllocError>
     requires known { CanFill relation.now costs.now ranks.now }
-    requires others { (p : ℕ) → IsIn p others.now → IsIn p (related_pairs (system_of relation.now.joint)) }
-    ensures { let n = relation.now.joint in let s = system_of n in let C = seat_costs n costs.now.listed in
-        (h : ℕ) → IsCostRow s C h ranks.now row.now →
-        OnOk result (values.new.items ≡ values.old.items ++ map (least_at s C (suc h)) others.now) }
+    requires others { (p : ℕ) → IsIn p others.now → IsIn p (related_numbers relation.now.joint) }
+    ensures { (h : ℕ) → IsRowFor relation.now.joint costs.now h ranks.now row.now →
+        Appends values.old.items values.new.items (values_for relation.now.joint costs.now (suc h) others.now) result }
 {
     for p in others {
         spare.clear();

@@ -1,10 +1,9 @@
 //! Reads costs from a text on a shelf.
-ghost use Rattle.std.specs.Prelude.{◌≡◌, ◌<◌, ◌≤◌, [], map, length, IfOk, IfSome};
+ghost use Rattle.std.specs.Prelude.{◌≡◌, ◌<◌, ◌≤◌, [], length, IfOk, IfSome};
 ghost use Rattle.serde_json.specs.View.{view, items_view};
 ghost use Rattle.roman_model.specs.declared.limits.TheConstants.{MAX_BEHAVIOURS};
 ghost use Rattle.roman_read.specs.Items.{each_item};
-ghost use Rattle.roman_joint.specs.Names.{beh_name};
-ghost use Rattle.roman_cost.specs.Costs.{cost_item, cost_step, costs_in, value_of, costs_of};
+ghost use Rattle.roman_cost.specs.Costs.{item_for, step_for, costs_for, value_of, costs_of};
 ghost use Rattle.roman_cost.specs.Refusals.{ReadsAs, HasCostCause, IsFaultless};
 ghost use Rattle.roman_cost.specs.Tables.{AreOf};
 
@@ -64,8 +63,7 @@ fn read_value<F: Shelf>(alloc: Global, shelf: &mut F, name: &str) -> Result<Valu
 /// Reads the costs that a value lists.
 fn costs_in(alloc: Global, joint: &Joint, v: &Value) -> Result<Costs, CostError>
     requires few { length joint.now.catalogue ≤ MAX_BEHAVIOURS }
-    ensures costs { ReadsAs (λ costs. costs.listed) result
-        (costs_in (map beh_name joint.now.catalogue) joint.now.environment.actions (view v.now)) }
+    ensures costs { ReadsAs (λ costs. costs.listed) result (costs_for joint.now (view v.now)) }
     ensures of { IfOk result (AreOf joint.now) }
     ensures quiet { IsFaultless result }
 {
@@ -82,7 +80,7 @@ fn read_items(alloc: Global, joint: &Joint, items: &[Value]) -> Result<Costs, Co
     requires few { length joint.now.catalogue ≤ MAX_BEHAVIOURS }
     requires items { length items.now ≤ MAX_COSTS }
     ensures costs { ReadsAs (λ costs. costs.listed) result
-        (each_item (cost_step (map beh_name joint.now.catalogue) joint.now.environment.actions) 0 [] (items_view items.now)) }
+        (each_item (step_for joint.now) 0 [] (items_view items.now)) }
     ensures of { IfOk result (AreOf joint.now) }
     ensures quiet { IsFaultless result }
 {
@@ -101,8 +99,7 @@ fn read_items(alloc: Global, joint: &Joint, items: &[Value]) -> Result<Costs, Co
 fn add_item(costs: &mut Costs, joint: &Joint, v: &Value, index: u32) -> Result<(), CostError>
     requires few { length joint.now.catalogue ≤ MAX_BEHAVIOURS }
     requires of { AreOf joint.now costs.old }
-    ensures step { ReadsAs (λ _. costs.new.listed) result
-        (cost_step (map beh_name joint.now.catalogue) joint.now.environment.actions index costs.old.listed (view v.now)) }
+    ensures step { ReadsAs (λ _. costs.new.listed) result (step_for joint.now index costs.old.listed (view v.now)) }
     ensures of { IfOk result (λ _. AreOf joint.now costs.new) }
     ensures quiet { IsFaultless result }
 {
@@ -118,8 +115,7 @@ fn add_item(costs: &mut Costs, joint: &Joint, v: &Value, index: u32) -> Result<(
 /// Reads one item, by the names of the behaviours and actions of a system.
 fn read_item(joint: &Joint, v: &Value, index: u32) -> Result<Listed, CostError>
     requires { length joint.now.catalogue ≤ MAX_BEHAVIOURS }
-    ensures item { ReadsAs (λ x. x) result
-        (cost_item (map beh_name joint.now.catalogue) joint.now.environment.actions index (view v.now)) }
+    ensures item { ReadsAs (λ x. x) result (item_for joint.now index (view v.now)) }
     ensures behaviour { IfOk result (λ x. x.behaviour < length joint.now.catalogue) }
     ensures action { IfOk result (λ x. x.action < length joint.now.environment.actions) }
     ensures small { IfOk result (λ x. x.cost ≤ MAX_COST) }

@@ -1,10 +1,9 @@
 //! Compares the offered services.
 ghost use Rattle.std.specs.Prelude.{◌≡◌, ℕ, ◌<◌, length};
-ghost use Rattle.roman_model.specs.Numbers.{sizes_of, pair_at};
-ghost use Rattle.roman_model.specs.Plans.{least, through};
 ghost use Rattle.roman_joint.specs.NamedSys.{system_of};
-ghost use Rattle.roman_cost.specs.Filling.{better_of, IsOffered, IsCostRow};
-ghost use Rattle.roman_cost.specs.Tables.{seat_costs, AreOf};
+ghost use Rattle.roman_cost.specs.Filling.{better_of, IsOffered};
+ghost use Rattle.roman_cost.specs.NamedWords.{IsRowFor, cost_for};
+ghost use Rattle.roman_cost.specs.Tables.{AreOf};
 
 use crate::costs::Costs;
 use crate::outcomes::greatest_outcome;
@@ -24,10 +23,9 @@ pub(crate) fn cost_through(
     requires costs { AreOf joint.now costs.now }
     requires seat { k < length joint.now.seats }
     requires offered { IsOffered (system_of joint.now) p a k }
-    requires row { (h : ℕ) × IsCostRow (system_of joint.now) (seat_costs joint.now costs.now.listed) h ranks.now row.now }
-    ensures { let s = system_of joint.now in
-        let C = seat_costs joint.now costs.now.listed in
-        (h : ℕ) → IsCostRow s C h ranks.now row.now → result ≡ through s C (least s C h) (pair_at (sizes_of s) p) a k }
+    requires row { (h : ℕ) × IsRowFor joint.now costs.now h ranks.now row.now }
+    ensures { (h : ℕ) → IsRowFor joint.now costs.now h ranks.now row.now →
+        result ≡ cost_for joint.now costs.now h p a k }
 {
     joint.known(); // each seat's behaviour is in the catalogue
     let outcomes = joint.outcomes(p, a, k);

@@ -1,15 +1,14 @@
 //! Represents the values of related pairs as terms, so that one pass over the terms computes each
 //! row of values.
-ghost use Rattle.std.specs.Prelude.{◌≡◌, ◌+◌, ◌*◌, ◌^◌, ◌<◌, ◌++◌, All, length, map, slice_index, IsTrue, OnOk};
+ghost use Rattle.std.specs.Prelude.{◌≡◌, ◌+◌, ◌*◌, ◌^◌, ◌<◌, All, length, map, slice_index};
 ghost use Rattle.roman_model.specs.Lists.{IsIn};
-ghost use Rattle.roman_model.specs.SystemArena.{is_allowed};
-ghost use Rattle.roman_model.specs.Numbers.{sizes_of, pair_at};
 ghost use Rattle.roman_joint.specs.NamedSys.{system_of};
 ghost use Rattle.roman_joint.specs.Outcomes.{outcome_numbers};
-ghost use Rattle.roman_cost.specs.Advised.{related_pairs, HavePlaces};
+ghost use Rattle.roman_cost.specs.Advised.{HavePlaces};
 ghost use Rattle.roman_cost.specs.Filling.{AreOutcomes, CanFill, IsOffered};
-ghost use Rattle.roman_cost.specs.Tables.{seat_costs, AreOf};
-ghost use Rattle.roman_cost.specs.Terms.{nothing_yet, cheaper_of, stepped, worked_out, outcome_terms, service_terms, action_terms, pair_terms};
+ghost use Rattle.roman_cost.specs.NamedWords.{related_numbers, AllowsAt, Appends, terms_of_service, terms_of_action, terms_of_pair};
+ghost use Rattle.roman_cost.specs.Tables.{AreOf};
+ghost use Rattle.roman_cost.specs.Terms.{nothing_yet, cheaper_of, stepped, worked_out, outcome_terms};
 
 use crate::costs::Costs;
 use crate::outcomes::greater;
@@ -104,7 +103,7 @@ fn value_in(row: &[u32], rank: u32) -> u32
 /// Computes the values of the pairs whose terms these are, and appends them to `values`. `row` has
 /// the values for one request fewer. Fails only when out of memory.
 pub(crate) fn work_out(terms: &[Term], row: &[u32], values: &mut Vec<u32>) -> Result<(), AllocError>
-    ensures { OnOk result (values.new.items ≡ values.old.items ++ worked_out row.now terms.now nothing_yet) }
+    ensures { Appends values.old.items values.new.items (worked_out row.now terms.now nothing_yet) result }
 {
     let mut standing = Standing::nothing();
     for term in terms {
@@ -125,9 +124,8 @@ pub(crate) fn push_pair(
     p: u32,
 ) -> Result<(), AllocError>
     requires known { CanFill relation.now costs.now ranks.now }
-    requires pair { IsIn p (related_pairs (system_of relation.now.joint)) }
-    ensures { let n = relation.now.joint in
-        OnOk result (terms.new.items ≡ terms.old.items ++ pair_terms (system_of n) (seat_costs n costs.now.listed) ranks.now p) }
+    requires pair { IsIn p (related_numbers relation.now.joint) }
+    ensures { Appends terms.old.items terms.new.items (terms_of_pair relation.now.joint costs.now ranks.now p) result }
 {
     for a in 0..relation.joint.actions() {
         if relation.joint.allowed(p, a) {
@@ -149,10 +147,10 @@ fn push_action(
     a: u8,
 ) -> Result<(), AllocError>
     requires known { CanFill relation.now costs.now ranks.now }
-    requires pair { IsIn p (related_pairs (system_of relation.now.joint)) }
-    requires allowed { IsTrue (is_allowed (system_of relation.now.joint) (pair_at (sizes_of (system_of relation.now.joint)) p) a) }
-    ensures { let n = relation.now.joint in
-        OnOk result (terms.new.items ≡ terms.old.items ++ action_terms (system_of n) (seat_costs n costs.now.listed) ranks.now p a) }
+    requires pair { IsIn p (related_numbers relation.now.joint) }
+    requires allowed { AllowsAt relation.now.joint p a }
+    ensures { Appends terms.old.items terms.new.items
+        (terms_of_action relation.now.joint costs.now ranks.now p a) result }
 {
     relation.joint.known(); // the system is well formed
     let offered = offers(relation, p, a);
@@ -177,11 +175,10 @@ fn push_service(
     k: u8,
 ) -> Result<(), AllocError>
     requires costs { AreOf joint.now costs.now }
-    requires ranks { HavePlaces (related_pairs (system_of joint.now)) ranks.now }
+    requires ranks { HavePlaces (related_numbers joint.now) ranks.now }
     requires seat { k < length joint.now.seats }
     requires offered { IsOffered (system_of joint.now) p a k }
-    ensures { OnOk result (terms.new.items
-        ≡ terms.old.items ++ service_terms (system_of joint.now) (seat_costs joint.now costs.now.listed) ranks.now p a k) }
+    ensures { Appends terms.old.items terms.new.items (terms_of_service joint.now costs.now ranks.now p a k) result }
 {
     joint.known(); // each seat's behaviour is in the catalogue
     let cost = costs.cost(joint.seat(k).behaviour, a);
@@ -198,7 +195,8 @@ fn push_outcomes(
     outcomes: Outcomes<'_>,
 ) -> Result<(), AllocError>
     requires { AreOutcomes (λ q. q < length ranks.now) outcomes }
-    ensures { OnOk result (terms.new.items ≡ terms.old.items ++ outcome_terms ranks.now (outcome_numbers outcomes.entry)) }
+    ensures { let numbers = outcome_numbers outcomes.entry in
+        Appends terms.old.items terms.new.items (outcome_terms ranks.now numbers) result }
 {
     let Outcomes {
         base,
@@ -224,7 +222,8 @@ fn push_states(
 ) -> Result<(), AllocError>
     requires ranked { All (λ b. from + b * stride < length ranks.now) states.now }
     requires fits { All (λ b. from + b * stride < 2 ^ 32) states.now }
-    ensures { OnOk result (terms.new.items ≡ terms.old.items ++ outcome_terms ranks.now (map (λ b. from + b * stride) states.now)) }
+    ensures { let numbers = map (λ b. from + b * stride) states.now in
+        Appends terms.old.items terms.new.items (outcome_terms ranks.now numbers) result }
 {
     for state in states {
         let pair = from + u32::from(*state) * stride;

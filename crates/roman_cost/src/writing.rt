@@ -1,21 +1,14 @@
 //! Writes the text of advice.
-ghost use Rattle.std.specs.Prelude.{◌≡◌, ◌-◌, ◌<◌, ◌≤◌, ◌++◌, IsTrue};
-ghost use Rattle.std.specs.List.{flat_map};
-ghost use Rattle.roman_io.specs.Faults.{HasCause};
-ghost use Rattle.roman_io.specs.Sink.{Puts};
-ghost use Rattle.roman_model.specs.Numbers.{sizes_of, count, pair_at};
-ghost use Rattle.roman_model.specs.Offers.{is_related};
-ghost use Rattle.roman_model.specs.Plans.{allowed_actions};
+ghost use Rattle.std.specs.Prelude.{◌≡◌, ◌-◌, ◌<◌, ◌≤◌, ◌++◌};
+ghost use Rattle.roman_io.specs.SinkCalls.{WritesTo, FailsWith};
 ghost use Rattle.roman_model.specs.Plans as plans;
 ghost use Rattle.roman_model.specs.System.{Sys};
-ghost use Rattle.roman_model.specs.SystemArena.{is_allowed};
-ghost use Rattle.roman_text.specs.Pages.{Gathers};
 ghost use Rattle.roman_joint.specs.NamedSys.{system_of};
-ghost use Rattle.roman_relation.specs.Greatest.{IsRelation};
-ghost use Rattle.roman_cost.specs.AdviceText.{advice_text, worst_line, choice_line, value_head, value_tail, value_lines, certificate_text, service_text};
+ghost use Rattle.roman_cost.specs.AdviceText.{worst_line, value_head, value_tail, value_lines, certificate_text, service_text};
 ghost use Rattle.roman_cost.specs.Advised.{Advises};
 ghost use Rattle.roman_cost.specs.Laws.{AdviceIsLeast};
-ghost use Rattle.roman_cost.specs.Tables.{seat_costs, AreOf};
+ghost use Rattle.roman_cost.specs.NamedWords.{CanAdvise, AllowsAt, advice_from, action_line, action_lines};
+ghost use Rattle.roman_text.specs.Pages.{Pushes};
 
 use crate::advice::Advice;
 use crate::costs::Costs;
@@ -38,15 +31,11 @@ pub fn put_advice<O: Sink>(
     start: u32,
     out: &mut O,
 ) -> Result<(), Failed>
-    requires relation { IsRelation relation.now.joint relation.now.order }
-    requires costs { AreOf relation.now.joint costs.now }
-    requires advises { Advises (system_of relation.now.joint) (seat_costs relation.now.joint costs.now.listed) advice.now }
+    requires known { CanAdvise relation.now costs.now advice.now start }
     requires some { 0 < advice.now.requests }
-    requires pair { start < count (sizes_of (system_of relation.now.joint)) }
-    requires related { IsTrue (is_related (system_of relation.now.joint) (pair_at (sizes_of (system_of relation.now.joint)) start)) }
-    ensures puts { Puts (O.written out.old) (O.written out.new)
-        (advice_text relation.now.joint costs.now.listed advice.now.requests (pair_at (sizes_of (system_of relation.now.joint)) start)) result }
-    ensures cause { HasCause (O.faults out.old) (O.faults out.new) result }
+    ensures puts { WritesTo O.Sink out.old out.new
+        (advice_from relation.now.joint costs.now advice.now.requests start) result }
+    ensures cause { FailsWith O.Sink out.old out.new result }
 {
     let worst = advice.value(advice.requests(), start);
     let mut page = Page::new();
@@ -73,17 +62,11 @@ fn push_choices<O: Sink>(
     page: &mut Page,
     out: &mut O,
 ) -> Result<(), Failed>
-    requires relation { IsRelation relation.now.joint relation.now.order }
-    requires costs { AreOf relation.now.joint costs.now }
-    requires advises { Advises (system_of relation.now.joint) (seat_costs relation.now.joint costs.now.listed) advice.now }
+    requires known { CanAdvise relation.now costs.now advice.now start }
     requires some { 0 < advice.now.requests }
-    requires pair { start < count (sizes_of (system_of relation.now.joint)) }
-    requires related { IsTrue (is_related (system_of relation.now.joint) (pair_at (sizes_of (system_of relation.now.joint)) start)) }
-    ensures gathers { let n = relation.now.joint in
-        let p = pair_at (sizes_of (system_of n)) start in
-        Gathers (O.written out.old) (O.written out.new) page.new
-        (page.old ++ flat_map (choice_line n (seat_costs n costs.now.listed) (advice.now.requests - 1) p) (allowed_actions (system_of n) p)) result }
-    ensures cause { HasCause (O.faults out.old) (O.faults out.new) result }
+    ensures gathers { Pushes O.Sink out.old out.new page.old page.new
+        (action_lines relation.now.joint costs.now (advice.now.requests - 1) start) result }
+    ensures cause { FailsWith O.Sink out.old out.new result }
 {
     relation.joint.known(); // the system is well formed
     for a in 0..relation.joint.actions() {
@@ -98,16 +81,11 @@ fn push_choices<O: Sink>(
 
 /// Returns the line of the action `a`, which the target allows at the related pair `start`.
 fn choice_piece(advice: &Advice, relation: &Relation, costs: &Costs, start: u32, a: u8) -> Piece
-    requires relation { IsRelation relation.now.joint relation.now.order }
-    requires costs { AreOf relation.now.joint costs.now }
-    requires advises { Advises (system_of relation.now.joint) (seat_costs relation.now.joint costs.now.listed) advice.now }
+    requires known { CanAdvise relation.now costs.now advice.now start }
     requires some { 0 < advice.now.requests }
-    requires pair { start < count (sizes_of (system_of relation.now.joint)) }
-    requires related { IsTrue (is_related (system_of relation.now.joint) (pair_at (sizes_of (system_of relation.now.joint)) start)) }
     requires action { a < (system_of relation.now.joint).env.actions }
-    requires allowed { IsTrue (is_allowed (system_of relation.now.joint) (pair_at (sizes_of (system_of relation.now.joint)) start) a) }
-    ensures { let n = relation.now.joint in
-        result ≡ choice_line n (seat_costs n costs.now.listed) (advice.now.requests - 1) (pair_at (sizes_of (system_of n)) start) a }
+    requires allowed { AllowsAt relation.now.joint start a }
+    ensures { result ≡ action_line relation.now.joint costs.now (advice.now.requests - 1) start a }
 {
     relation.joint.known(); // the system is well formed
     let (seat, cost) = advice.choice(relation, costs, advice.requests(), start, a);
@@ -128,8 +106,8 @@ fn service_piece(action: &Name, service: &Name, cost: u32) -> Piece
 /// Puts on the page the lines of all values for one request or more.
 fn push_values<O: Sink>(advice: &Advice, page: &mut Page, out: &mut O) -> Result<(), Failed>
     ensures gathers { (s : Sys) (C : plans.Costs) → Advises s C advice.now
-        → Gathers (O.written out.old) (O.written out.new) page.new (page.old ++ certificate_text s C advice.now.requests) result }
-    ensures cause { HasCause (O.faults out.old) (O.faults out.new) result }
+        → Pushes O.Sink out.old out.new page.old page.new (certificate_text s C advice.now.requests) result }
+    ensures cause { FailsWith O.Sink out.old out.new result }
 {
     for h in 0..advice.requests() {
         push_row(advice, h + 1, page, out)?;
@@ -141,8 +119,8 @@ fn push_values<O: Sink>(advice: &Advice, page: &mut Page, out: &mut O) -> Result
 fn push_row<O: Sink>(advice: &Advice, h: u8, page: &mut Page, out: &mut O) -> Result<(), Failed>
     requires { h ≤ advice.now.requests }
     ensures gathers { (s : Sys) (C : plans.Costs) → Advises s C advice.now
-        → Gathers (O.written out.old) (O.written out.new) page.new (page.old ++ value_lines s C h) result }
-    ensures cause { HasCause (O.faults out.old) (O.faults out.new) result }
+        → Pushes O.Sink out.old out.new page.old page.new (value_lines s C h) result }
+    ensures cause { FailsWith O.Sink out.old out.new result }
 {
     let head = head_piece(h);
     let row = advice.row(h);
@@ -167,9 +145,9 @@ fn push_value<O: Sink>(
     page: &mut Page,
     out: &mut O,
 ) -> Result<(), Failed>
-    ensures gathers { Gathers (O.written out.old) (O.written out.new) page.new
-        (page.old ++ (head.now ++ value_tail p value)) result }
-    ensures cause { HasCause (O.faults out.old) (O.faults out.new) result }
+    ensures gathers { Pushes O.Sink out.old out.new page.old page.new
+        (head.now ++ value_tail p value) result }
+    ensures cause { FailsWith O.Sink out.old out.new result }
 {
     page.push(head, out)?;
     page.push_number_then(p, b" ", out)?;

@@ -1,5 +1,5 @@
 -- Parts and libraries that were read can be stated, and their names are distinct.
-use Rattle.roman_document_laws.proofs.Common.{AcceptedCanBeSaid, AcceptedNamesAreClear, HasClearNames, PartsCanBeSaid, AcceptedNameTargets, AreBefore, AreItems, Beh, Bool, CanList, Data, Env, Err, HasNoRepeats, IsDeterministic, IsEnv, IsFalse, IsIn, IsLibrary, IsMoveBefore, IsOver, IsSayable, IsSayableBeh, IsSayableEnv, IsSayableTarget, IsTripleBefore, IsTrue, List, MAX_ACTIONS, MAX_STATES, MAX_STEPS, Move, NamedBeh, NamedEnv, NamedTarget, NamesTargets, Ok, PartError, PlainCombined, PlainLibrary, PlainTargets, Result, Rises, Service, Some, Texts, Triple, [], any_false, ap, are_allowed, arith, as_object, behaviour_in, behaviour_known, behaviour_name, behaviour_of, below, bind_ok, both_ways, cases_eq, catalogue_in, check, check_is, codes, combined_behaviour, combined_of, combined_parts, combined_state_names, cond, environment_in, environment_known, environment_of, eqb-true, false, finals_of, from_map, from_normal_move, from_normal_triple, has_repeats, in_below, in_map, inl, inr, is_name, is_some, length, length-map, libraries_known, library_in, library_of, limit_of, looked, member_of, listed_in, listed_step, listed_triple, map, moves_of, name_of, names_of, new_behaviour_of, new_name_of, no_longer, normal_beh, normal_env, or_parts, part_of, parts_in, place_of, placed, placed_is, refl, request_names, requests_in, same_Some, same_ok, service_of, services_of, single_of, slice_get, slice_get_within, slice_index_or, stands_before, start_of, step_listed, subst, suc, sym, take, target_in, target_known, target_of, targets_combined, targets_in, there_some, triple_in, triples_of, true, value_at, version_of, zero, ℕ, ◌++◌, ◌<◌, ◌==◌, ◌>>=◌, ◌∙◌, ◌∷◌, ◌≡◌, ◌≤◌, ◌⊎◌}
+use Rattle.roman_document_laws.proofs.Common.{AcceptedCanBeSaid, AcceptedNamesAreClear, HasClearNames, PartsCanBeSaid, AcceptedNameTargets, AreBefore, AreItems, Beh, Bool, CanList, Data, Env, Err, HasNoRepeats, IsDeterministic, IsEnv, IsFalse, IsIn, IsLibrary, IsMoveBefore, IsOver, IsSayable, IsSayableBeh, IsSayableEnv, IsSayableTarget, IsTripleBefore, IsTrue, List, MAX_ACTIONS, MAX_STATES, MAX_STEPS, Move, NamedBeh, NamedEnv, NamedTarget, NamesTargets, Ok, PartError, PlainCombined, PlainLibrary, PlainTargets, Result, Rises, Service, Some, Texts, Triple, [], any_false, ap, are_allowed, arith, as_object, behaviour_in, behaviour_known, behaviour_name, behaviour_of, below, bind_ok, both_ways, cases_eq, catalogue_in, check, check_is, codes, combined_behaviour, combined_of, combined_parts, combined_state_names, cond, environment_in, environment_known, environment_of, eqb-true, false, finals_of, from_map, from_normal_move, from_normal_triple, has_repeats, in_below, in_map, inl, inr, is_name, is_some, length, length-map, libraries_known, library_in, library_of, limit_of, looked, member_of, listed_in, listed_step, listed_triple, map, moves_of, name_of, names_of, new_behaviour_of, new_name_of, no_longer, normal_beh, normal_env, or_parts, part_of, parts_in, place_of, placed, placed_is, refl, request_names, requests_in, same_Some, same_ok, service_of, services_of, single_of, slice_get, slice_get_within, slice_index_or, stands_before, start_of, step_listed, subst, suc, sym, take, target_in, target_known, target_of, targets_combined, targets_in, there_some, triple_in, triples_of, true, value_at, version_of, zero, ℕ, ◌++◌, ◌<◌, ◌==◌, ◌>>=◌, ◌∙◌, ◌∷◌, ◌≡◌, ◌≤◌, ◌⊎◌, get_or_from_slice_get}
 use Rattle.roman_read.specs.declared.rules.Kind.TheVariants as kind
 use Rattle.roman_parts.specs.declared.error.List.{List as Place}
 use Rattle.roman_parts.specs.declared.error.List.TheVariants as list
@@ -283,16 +283,11 @@ once_from (n ∷ ns) apart = (
   once_from ns (λ i j name less at_i at_j. apart (suc i) (suc j) name (omega (arith, less)) at_i at_j),
 )
 
-index_there : (names : List (List ℕ)) (k : ℕ) (name : List ℕ) → slice_get names k ≡ Some name → slice_index_or names k [] ≡ name
-index_there [] k name at = cc
-index_there (n ∷ ns) zero name at = same_Some n name at
-index_there (n ∷ ns) (suc k) name at = index_there ns k name at
-
 apart_once : (names : List (List ℕ)) → IsFalse (has_repeats names) → HasNoRepeats names
 apart_once names none = once_from names (λ i j name less at_i at_j.
     let (k, place) = there_some (take j names) name (in_front names i j name less at_i) in
     let new : IsFalse (stands_before names j) = any_false (stands_before names) j (below (length names)) none (in_below (length names) j (slice_get_within names j name at_j)) in
-    let there : IsTrue (is_some (place_of (take j names) (slice_index_or names j []))) = ap is_some (ap (place_of (take j names)) (index_there names j name at_j) ∙ place) in
+    let there : IsTrue (is_some (place_of (take j names) (slice_index_or names j []))) = ap is_some (ap (place_of (take j names)) (get_or_from_slice_get names j name [] at_j) ∙ place) in
     both_ways _ new there)
 
 -- the services of an accepted document have valid names

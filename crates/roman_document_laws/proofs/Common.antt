@@ -7,7 +7,7 @@ pub use Rattle.std.proofs.lemmas.Slice.Eq.{bytes_eq-Decides}
 pub use Rattle.std.proofs.lemmas.Slice.Zip.{AllZip-long}
 pub use Rattle.std.specs.List.{AllZip, filter, flat_map}
 pub use Rattle.std.specs.Str.{bytes_eq}
-pub use Rattle.roman_guard.proofs.CallerLemmas.{in_states_below, states_below-suc, states_below-zero, states_below_are}
+pub use Rattle.roman_guard.proofs.CallerLemmas.{in_states_below, states_below_are}
 pub use Rattle.roman_guard.specs.Meaning.{is_one_of, states_below}
 pub use Rattle.roman_io.specs.Shelf.{Texts}
 pub use Rattle.roman_laws.proofs.CallerLemmas.{listed_step, listed_triple, step_listed}
@@ -19,7 +19,7 @@ pub use Rattle.roman_library.specs.Refusals.{placed, refusal_of}
 pub use Rattle.roman_library.specs.declared.library.Service.{Service}
 pub use Rattle.roman_library.specs.declared.refusal.Part.{Part}
 pub use Rattle.roman_library.specs.declared.refusal.Refusal.{Refusal}
-pub use Rattle.roman_model.proofs.CallerLemmas.{any_false, any_true, by_test, contains_in, filter_below_more, filter_in, find_not_found, from_append, from_below, from_flat_map, from_map, from_push, get_in, in_append_left, in_below, in_contains, in_map, in_push, listed_number, no_longer, none_from, number_listed, same_test, there_is, triple_in}
+pub use Rattle.roman_model.proofs.CallerLemmas.{any_false, any_true, by_test, contains_in, filter_in, find_not_found, from_append, from_below, from_flat_map, from_map, from_push, get_in, in_append_left, in_below, in_contains, in_map, in_push, listed_number, no_longer, none_from, number_listed, same_test, there_is, triple_in}
 pub use Rattle.roman_model.specs.Explanation.{name_at}
 pub use Rattle.roman_model.specs.Lists.{HasNoRepeats, IsIn, below}
 pub use Rattle.roman_model.specs.Made.{guarded_step}
@@ -27,7 +27,7 @@ pub use Rattle.roman_model.specs.Normal.{normal_beh, normal_env}
 pub use Rattle.roman_model.specs.System.{Beh, Env, IsBeh, IsDeterministic, IsEnv, Move, Triple, has, has_move, has_triple, is_final}
 pub use Rattle.roman_model.specs.SystemArena.{env_next}
 pub use Rattle.roman_model.specs.declared.limits.TheConstants.{MAX_ACTIONS, MAX_BEHAVIOURS, MAX_CELLS, MAX_SERVICES, MAX_STATES, MAX_STEPS}
-pub use Rattle.roman_parts.proofs.CallerLemmas.{behaviour_known, check_is, env_read, environment_known, first_below-none, from_normal_move, from_normal_triple, has_move-normal, has_triple-normal, is_final-normal, none_absent, none_is, target_known, there_some}
+pub use Rattle.roman_parts.proofs.CallerLemmas.{behaviour_known, check_is, env_read, environment_known, first_below-none, from_normal_move, from_normal_triple, has_move-normal, has_triple-normal, is_final-normal, none_absent, none_is, states_below-filter, target_known, there_some}
 pub use Rattle.roman_parts.specs.Choices.{refuse_choice}
 unfoldable pub use Rattle.roman_parts.specs.Choices.{choice_at, choice_between, choice_of, choice_with, single_of}
 unfoldable pub use Rattle.roman_parts.specs.Guards.{among_of, guard_of, guarded_states, state_in}

@@ -1,5 +1,5 @@
 -- The written value of a part means that part.
-use Rattle.roman_document_laws.proofs.Common.{◌≡◌, ℕ, zero, suc, ◌<◌, ◌≤◌, ◌&&◌, Bool, List, [], ◌∷◌, ◌++◌, map, length, Option, None, Some, codes, Result, Ok, IsTrue, slice_get, inl, inr, refl, sym, ap, ◌∙◌, subst, arith, ◌==◌, not, cond, is_some, find, eqb-true, AllZip, filter, and_parts, both_ways, cond-true, cond-false, not-true, eq-eqb, length-map, same_Some, Data, string, items_of, IsIn, HasNoRepeats, below, Env, Beh, Move, has_move, is_final, IsEnv, IsBeh, IsDeterministic, has, normal_env, normal_beh, MAX_STEPS, MAX_STATES, by_test, get_in, in_contains, filter_in, number_listed, listed_number, same_test, none_from, find_not_found, contains_in, triple_in, filter_below_more, step_listed, listed_step, ◌>>=◌, each_item, pushing, text_of, member_of, is_name, IsListAt, AreItems, guarded_states, state_in, among_of, guard_of, names_of, finals_of, start_of, NamedEnv, NamedBeh, NamedTarget, IsOver, Rises, IsLess, IsNormalEnv, IsNormalBeh, IsPlace, BreaksPlace, IsTripleItem, IsMoveItem, triples_of, moves_of, list_value, place_value, behaviour_value, IsSayableEnv, IsSayableBeh, IsSayableTarget, names_value, places_value, triple_value, move_value, environment_value, target_value, CanList, PartsAreSaid, PartError, has_triple-normal, has_move-normal, is_final-normal, first_below-none, from_normal_triple, from_normal_move, env_read, as_object, is_one_of, states_below, in_states_below, states_below_are, states_below-suc, states_below-zero, name_at, choice_between, choice_at, choice_with, choice_of, refuse_choice, single_of, environment_of, name_of, behaviour_of, target_of}
+use Rattle.roman_document_laws.proofs.Common.{◌≡◌, ℕ, zero, suc, ◌<◌, ◌≤◌, ◌&&◌, Bool, List, [], ◌∷◌, ◌++◌, map, length, Option, None, Some, codes, Result, Ok, IsTrue, slice_get, inl, inr, refl, sym, ap, ◌∙◌, subst, arith, ◌==◌, not, is_some, find, eqb-true, AllZip, and_parts, both_ways, cond-true, cond-false, not-true, eq-eqb, length-map, same_Some, Data, string, items_of, IsIn, HasNoRepeats, below, Env, Beh, Move, has_move, is_final, IsEnv, IsBeh, IsDeterministic, has, normal_env, normal_beh, MAX_STEPS, MAX_STATES, by_test, get_in, in_contains, filter_in, number_listed, listed_number, same_test, none_from, find_not_found, contains_in, triple_in, step_listed, listed_step, ◌>>=◌, each_item, pushing, text_of, member_of, is_name, IsListAt, AreItems, guarded_states, state_in, among_of, guard_of, names_of, finals_of, start_of, NamedEnv, NamedBeh, NamedTarget, IsOver, Rises, IsLess, IsNormalEnv, IsNormalBeh, IsPlace, BreaksPlace, IsTripleItem, IsMoveItem, triples_of, moves_of, list_value, place_value, behaviour_value, IsSayableEnv, IsSayableBeh, IsSayableTarget, names_value, places_value, triple_value, move_value, environment_value, target_value, CanList, PartsAreSaid, PartError, has_triple-normal, has_move-normal, is_final-normal, first_below-none, from_normal_triple, from_normal_move, env_read, as_object, is_one_of, states_below, in_states_below, states_below_are, name_at, choice_between, choice_at, choice_with, choice_of, refuse_choice, single_of, environment_of, name_of, behaviour_of, target_of, states_below-filter}
 use Rattle.roman_document_laws.proofs.ListLemmas.{all_exact, appends}
 use Rattle.roman_parts.specs.declared.error.List.{List as Place}
 use Rattle.roman_parts.specs.declared.error.List.TheVariants as list
@@ -36,12 +36,8 @@ are_each Is value before (x ∷ xs) each = (each before x (inl refl), are_each I
 
 -- Guards
 
-states_filtered : (test : ℕ → Bool) (n : ℕ) → states_below test n ≡ filter test (below n)
-states_filtered test zero = states_below-zero test
-states_filtered test (suc n) = states_below-suc test n ∙ ap (λ es. es ++ cond (test n) (n ∷ []) []) (states_filtered test n) ∙ sym (filter_below_more test n)
-
 rises_states : (test : ℕ → Bool) (n : ℕ) → Rises IsLess (states_below test n)
-rises_states test n = subst (Rises IsLess) (sym (states_filtered test n)) (rises_filter IsLess test (below n) (rises_below n))
+rises_states test n = subst (Rises IsLess) (sym (states_below-filter test n)) (rises_filter IsLess test (below n) (rises_below n))
 
 -- a rising list of states lists exactly its own states
 among_is : (n : ℕ) (G : List ℕ) → Rises IsLess G → ((e : ℕ) → IsIn e G → e < n) → states_below (is_one_of G) n ≡ G

@@ -19,6 +19,26 @@ const SEVENTEEN_ACTIONS: &[Part] = &[
 /// A further step of a target with one state.
 const NEXT_STEP: &str = r#",["s",true,"a#","s"]"#;
 
+/// A document whose first target has steps on the actions up to the given one, and whose second target has
+/// steps on sixteen actions.
+macro_rules! many_actions {
+    ($last:expr) => {
+        document!(
+            TWO,
+            environment: SEVENTEEN_ACTIONS,
+            behaviours: &[],
+            services: &[],
+            targets: &[
+                Is(r#"[{"name":"a","states":["s"],"start":"s","final":["s"],"steps":[["s",true,"a0","s"]"#),
+                Each(NEXT_STEP, 1, $last),
+                Is(r#"]},{"name":"b","states":["s"],"start":"s","final":["s"],"steps":[["s",true,"a0","s"]"#),
+                Each(NEXT_STEP, 1, 15),
+                Is("]}]"),
+            ],
+        )
+    };
+}
+
 /// The report on two lamps with two targets that are lamps.
 const TWO_LINES: &[&str] = &[
     "pairs 16",
@@ -157,36 +177,12 @@ static COMBINATIONS: [Row; 11] = [
     ),
     (
         "thirty-three combined actions",
-        document!(
-            TWO,
-            environment: SEVENTEEN_ACTIONS,
-            behaviours: &[],
-            services: &[],
-            targets: &[
-                Is(r#"[{"name":"a","states":["s"],"start":"s","final":["s"],"steps":[["s",true,"a0","s"]"#),
-                Each(NEXT_STEP, 1, 16),
-                Is(r#"]},{"name":"b","states":["s"],"start":"s","final":["s"],"steps":[["s",true,"a0","s"]"#),
-                Each(NEXT_STEP, 1, 15),
-                Is("]}]"),
-            ],
-        ),
+        many_actions!(16),
         Refused("lamp.json count system 0 targets 2"),
     ),
     (
         "thirty-two combined actions",
-        document!(
-            TWO,
-            environment: SEVENTEEN_ACTIONS,
-            behaviours: &[],
-            services: &[],
-            targets: &[
-                Is(r#"[{"name":"a","states":["s"],"start":"s","final":["s"],"steps":[["s",true,"a0","s"]"#),
-                Each(NEXT_STEP, 1, 15),
-                Is(r#"]},{"name":"b","states":["s"],"start":"s","final":["s"],"steps":[["s",true,"a0","s"]"#),
-                Each(NEXT_STEP, 1, 15),
-                Is("]}]"),
-            ],
-        ),
+        many_actions!(15),
         Done(&[
             "pairs 1",
             "related 1",

@@ -1,9 +1,5 @@
 -- Moves by a served request.
-use Rattle.roman_generator.proofs.Common.{◌≡◌, ℕ, ◌<◌, List, [], ◌∷◌, Option, Some, None, IsTrue, IsFalse, IfSome, IfNone, MatchOption, inl, length, slice_get, slice_index, refl, sym, ap, ◌∙◌, subst, arith, get_or-set_same, length-map, both_ways, not-true, slice_get_within, IsIn, listed_number, number_listed, size_at, in_env_next, from_env_next, in_beh_next, from_beh_next, move_in_range, triple_in_range, seat_in, numbers_are_pairs, AreBelow-length, AreBelow-index, states_below, IsPairOf-from, IsPairOf-moved, pair_at-number, from_allowed, Sys, IsSys, Seat, Pair, IsPair, TStep, Allows, has, has_move, env_next, beh_next, is_ready, is_allowed, sizes_of, count, number, pair_at, Sizes, moved, CanMove, Becomes, IsBefore, Sight}
-
--- a pair has a state for each seat
-pub states_long : (s : Sys) (p : Pair) → IsPair s p → length p.bs ≡ length s.seats
-states_long s p pair = AreBelow-length (sizes_of s).seats p.bs (states_below s.seats p.bs pair.bs) ∙ length-map s.seats (λ (x : Seat). x.beh.states)
+use Rattle.roman_generator.proofs.Common.{◌≡◌, ℕ, ◌<◌, List, [], ◌∷◌, Option, Some, None, IsTrue, IsFalse, IfSome, IfNone, MatchOption, inl, length, slice_get, slice_index, refl, sym, ap, ◌∙◌, subst, arith, get_or-set_same, length-map, both_ways, not-true, slice_get_within, IsIn, listed_number, number_listed, size_at, in_env_next, from_env_next, in_beh_next, from_beh_next, move_in_range, triple_in_range, numbers_are_pairs, AreBelow-index, states_below, IsPairOf-from, IsPairOf-moved, pair_at-number, from_allowed, Sys, IsSys, Seat, Pair, IsPair, TStep, Allows, has, has_move, env_next, beh_next, is_ready, is_allowed, sizes_of, count, number, pair_at, Sizes, moved, CanMove, Becomes, IsBefore, Observation, states_long, get_in}
 
 -- two seats at one place are equal
 pub same_seat : (s : Sys) (k : ℕ) (x y : Seat) → slice_get s.seats k ≡ Some x → slice_get s.seats k ≡ Some y → x ≡ y
@@ -21,20 +17,20 @@ to_seen s p a k b e pair step =
     sym (get_or-set_same p.bs k step.to 0 within) ∙ ap (λ (bs : List ℕ). slice_index bs k) (sym step.is) ∙ get_or-set_same p.bs k b 0 within
 
 -- where the environment has no step, no system step leads to the states that are seen
-pub env_stays : (s : Sys) (t e b : ℕ) (x : Sight) (p : Pair) → IsSys s → IsFalse (has (env_next s.env e x.action) x.env) → IsBefore s t e b x p → CanMove s p x.action x.seat x.state x.env → ⊥
+pub env_stays : (s : Sys) (t e b : ℕ) (x : Observation) (p : Pair) → IsSys s → IsFalse (has (env_next s.env e x.action) x.env) → IsBefore s t e b x p → CanMove s p x.action x.seat x.state x.env → ⊥
 env_stays s t e b x p ok out before step = grind (arith, both_ways, in_env_next, listed_number)
 
 -- where the service has no step, none does
-pub seat_stays : (s : Sys) (t e b : ℕ) (x : Sight) (p : Pair) (seat : Seat) → IsSys s → slice_get s.seats x.seat ≡ Some seat → IsFalse (has (beh_next seat.beh b e x.action) x.state) → IsBefore s t e b x p →
+pub seat_stays : (s : Sys) (t e b : ℕ) (x : Observation) (p : Pair) (seat : Seat) → IsSys s → slice_get s.seats x.seat ≡ Some seat → IsFalse (has (beh_next seat.beh b e x.action) x.state) → IsBefore s t e b x p →
     CanMove s p x.action x.seat x.state x.env → ⊥
 seat_stays s t e b x p seat ok seated out before step =
     let same : step.seat ≡ seat = same_seat s x.seat step.seat seat step.seated seated in
     let moves : IsTrue (has_move seat.beh b e x.action x.state) = rw (← same, ← before.state, ← before.env, ← to_seen s p x.action x.seat x.state x.env before.pair step) step.moves in
     both_ways (has (beh_next seat.beh b e x.action) x.state) out
-    (listed_number (beh_next seat.beh b e x.action) x.state (in_beh_next s.env seat.beh b e x.action x.state (ok.seats seat (seat_in s.seats x.seat seat seated)) moves))
+    (listed_number (beh_next seat.beh b e x.action) x.state (in_beh_next s.env seat.beh b e x.action x.state (ok.seats seat (get_in s.seats x.seat seat seated)) moves))
 
 -- where both have a step, a system step leads to the states that are seen
-pub can_move : (s : Sys) (t e b : ℕ) (x : Sight) (p : Pair) (seat : Seat) → slice_get s.seats x.seat ≡ Some seat → IsTrue (is_ready (slice_get s.seats x.seat)) →
+pub can_move : (s : Sys) (t e b : ℕ) (x : Observation) (p : Pair) (seat : Seat) → slice_get s.seats x.seat ≡ Some seat → IsTrue (is_ready (slice_get s.seats x.seat)) →
     IsTrue (has (env_next s.env e x.action) x.env) → IsTrue (has (beh_next seat.beh b e x.action) x.state) → IsBefore s t e b x p → CanMove s p x.action x.seat x.state x.env
 can_move s t e b x p seat seated ready has_e has_b before = grind (arith, from_beh_next, from_env_next, number_listed, ready_seat, same_seat)
 
@@ -50,7 +46,7 @@ target_there s t e a None ok (to, e', step) next = subst (IsIn to) next (in_beh_
 target_there s t e a (Some to) ok allowed next = tt
 
 -- all numbers of an allowed action are in range
-pub allowed_within : (s : Sys) (t e b : ℕ) (x : Sight) (p : Pair) → IsSys s → IsBefore s t e b x p → (t < s.target.states) × (e < s.env.states) × (x.action < s.env.actions)
+pub allowed_within : (s : Sys) (t e b : ℕ) (x : Observation) (p : Pair) → IsSys s → IsBefore s t e b x p → (t < s.target.states) × (e < s.env.states) × (x.action < s.env.actions)
 allowed_within s t e b x p ok before =
     let (to, e', step) = from_allowed s p x.action before.allowed in
     let (from, env, action, there) = move_in_range s.env s.target p.t p.e x.action to ok.target step.1 in
@@ -59,7 +55,7 @@ allowed_within s t e b x p ok before =
 -- a service is seen in one of its states
 pub seen_within : (s : Sys) (p : Pair) (a k b e : ℕ) → IsSys s → IsPair s p → CanMove s p a k b e → b < slice_index (sizes_of s).seats k
 seen_within s p a k b e ok pair step =
-    let within = (move_in_range s.env step.seat.beh (slice_index p.bs k) p.e a step.to (ok.seats step.seat (seat_in s.seats k step.seat step.seated)) step.moves).3 in
+    let within = (move_in_range s.env step.seat.beh (slice_index p.bs k) p.e a step.to (ok.seats step.seat (get_in s.seats k step.seat step.seated)) step.moves).3 in
     omega (arith, within, to_seen s p a k b e pair step, size_at s.seats k step.seat step.seated)
 
 -- where the target and the system have a step, the pair moves
@@ -85,7 +81,7 @@ pub state_within : (s : Sys) (p : Pair) (k : ℕ) (seat : Seat) → IsPair s p �
 state_within s p k seat pair seated = grind (arith, AreBelow-index, length-map, size_at, slice_get_within, states_below)
 
 -- the state of the looked-up seat is a state of its behaviour
-pub state_of_seat : (s : Sys) (t e b : ℕ) (x : Sight) (p : Pair) (seat : Seat) → IsBefore s t e b x p → slice_get s.seats x.seat ≡ Some seat → b < seat.beh.states
+pub state_of_seat : (s : Sys) (t e b : ℕ) (x : Observation) (p : Pair) (seat : Seat) → IsBefore s t e b x p → slice_get s.seats x.seat ≡ Some seat → b < seat.beh.states
 state_of_seat s t e b x p seat before seated = subst (λ n. n < seat.beh.states) before.state (state_within s p x.seat seat before.pair seated)
 
 -- the states that a shape of the system reads from the number of a pair are those of the pair

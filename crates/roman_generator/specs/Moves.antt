@@ -3,11 +3,15 @@ use Rattle.std.specs.Prelude.{◌≡◌, ℕ, ◌<◌, IsTrue, slice_index, slic
 use Rattle.roman_model.specs.System.{Sys, Pair, IsPair, TStep, SStep}
 use Rattle.roman_model.specs.SystemArena.{is_allowed}
 use Rattle.roman_model.specs.Numbers.{sizes_of, count, pair_at}
-use Rattle.roman_generator.specs.declared.sight.Sight.{Sight}
+use Rattle.roman_generator.specs.declared.observation.Observation.{Observation}
 
 -- a system step by a, delegated to seat k, leads from p to the seat's state b and the environment's e
 abbrev pub CanMove : Sys → Pair → ℕ → ℕ → ℕ → ℕ → Type 0
 CanMove s p a k b e = SStep s p.bs p.e a k (slice_set p.bs k b) e
+
+-- a system step leads from p to what is observed
+abbrev pub MayBeObserved : Sys → Pair → Observation → Type 0
+MayBeObserved s p x = CanMove s p x.action x.seat x.state x.env
 
 -- a system step by a, delegated to seat k, to the seat's state b and the environment's e, with a target step, leads from p to the pair with number q
 pub record Becomes (s : Sys) (p : Pair) (a k b e q : ℕ) : Type 0 where
@@ -18,7 +22,7 @@ pub record Becomes (s : Sys) (p : Pair) (a k b e q : ℕ) : Type 0 where
   pub pair : pair_at (sizes_of s) q ≡ record { t = to; e = e; bs = slice_set p.bs k b }
 
 -- the pair has these states of the target, the environment and the seat, and the action is allowed there
-pub record IsBefore (s : Sys) (t e b : ℕ) (x : Sight) (p : Pair) : Type 0 where
+pub record IsBefore (s : Sys) (t e b : ℕ) (x : Observation) (p : Pair) : Type 0 where
   pub pair : IsPair s p
   pub target : p.t ≡ t
   pub env : p.e ≡ e

@@ -3,9 +3,9 @@
 #![tactic(auto)]
 
 mod moves;
+mod observation;
 mod offering;
-mod sight;
 
 pub use moves::{next_pair, next_target};
+pub use observation::Observation;
 pub use offering::offers;
-pub use sight::Sight;

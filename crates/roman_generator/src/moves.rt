@@ -1,12 +1,12 @@
 //! Moves from one pair to the next.
-ghost use Rattle.std.specs.Prelude.{◌≡◌, ◌<◌, IsTrue, IfSome, IfNone, slice_get};
+ghost use Rattle.std.specs.Prelude.{◌≡◌, ◌<◌, IsTrue, IfSome, IfNone};
 ghost use Rattle.roman_model.specs.System.{Pair, IsPair, TStep, has};
 ghost use Rattle.roman_model.specs.SystemArena.{is_allowed, is_ready};
-ghost use Rattle.roman_model.specs.Numbers.{sizes_of, count, pair_at};
 ghost use Rattle.roman_joint.specs.NamedSys.{system_of};
-ghost use Rattle.roman_generator.specs.Moves.{CanMove, Becomes, IsBefore};
+ghost use Rattle.roman_generator.specs.Moves.{CanMove, MayBeObserved, Becomes, IsBefore};
+ghost use Rattle.roman_joint.specs.Pairs.{joint_pairs, joint_pair, joint_seat};
 
-use crate::sight::Sight;
+use crate::observation::Observation;
 use roman_joint::Joint;
 
 /// Returns the number of the pair that follows the pair `p` where the service `k` serves the action
@@ -14,62 +14,74 @@ use roman_joint::Joint;
 /// allowed at the pair, and that the service is ready. The two states can be any numbers: returns
 /// `None` exactly where no step of the system leads there. Takes no memory.
 pub fn next_pair(joint: &Joint, p: u32, a: u8, k: u8, b2: u8, e2: u8) -> Option<u32>
-    requires pair { p < count (sizes_of (system_of joint.now)) }
-    requires allowed { IsTrue (is_allowed (system_of joint.now) (pair_at (sizes_of (system_of joint.now)) p) a) }
-    requires ready { IsTrue (is_ready (slice_get (system_of joint.now).seats k)) }
-    ensures moves { IfSome result (Becomes (system_of joint.now) (pair_at (sizes_of (system_of joint.now)) p) a k b2 e2) }
-    ensures none { IfNone result (CanMove (system_of joint.now) (pair_at (sizes_of (system_of joint.now)) p) a k b2 e2 → ⊥) }
+    requires pair { p < joint_pairs joint.now }
+    requires allowed { IsTrue (is_allowed (system_of joint.now) (joint_pair joint.now p) a) }
+    requires ready { IsTrue (is_ready (joint_seat joint.now k)) }
+    ensures moves { IfSome result (Becomes (system_of joint.now) (joint_pair joint.now p) a k b2 e2) }
+    ensures none { IfNone result (CanMove (system_of joint.now) (joint_pair joint.now p) a k b2 e2 → ⊥) }
 {
     joint.known(); // the system is well formed
     let shape = joint.shape();
     let t = shape.target_of(p);
     let e = shape.env_of(p);
     let b = shape.part_of(p, k);
-    let sight = Sight {
+    let observation = Observation {
         action: a,
         seat: k,
         state: b2,
         env: e2,
     };
-    let to = target_after(joint, t, e, b, sight)?;
+    let to = target_after(joint, t, e, b, observation)?;
     Some(shape.moved(p, to, e2, k, b2))
 }
 
-/// Returns the target's state after the action that `sight` describes. Before it, the target is in
+/// Returns the target's state after the action that `observation` describes. Before it, the target is in
 /// state `t`, the environment in state `e`, and the services are in the given states. Requires that
-/// the action is allowed there, and that its service is ready. The two states that are seen can be any
+/// the action is allowed there, and that its service is ready. The two states that are observed can be any
 /// numbers: returns `None` exactly where no step of the system leads there. Takes no memory.
-pub fn next_target(joint: &Joint, t: u8, e: u8, states: &[u8], sight: Sight) -> Option<u8>
+pub fn next_target(
+    joint: &Joint,
+    t: u8,
+    e: u8,
+    states: &[u8],
+    observation: Observation,
+) -> Option<u8>
     requires pair { IsPair (system_of joint.now) (record { t = t; e = e; bs = states.now }) }
-    requires allowed { IsTrue (is_allowed (system_of joint.now) (record { t = t; e = e; bs = states.now }) sight.action) }
-    requires ready { IsTrue (is_ready (slice_get (system_of joint.now).seats sight.seat)) }
+    requires allowed { IsTrue (is_allowed (system_of joint.now)
+        (record { t = t; e = e; bs = states.now }) observation.action) }
+    requires ready { IsTrue (is_ready (joint_seat joint.now observation.seat)) }
     ensures moves { let p : Pair = record { t = t; e = e; bs = states.now } in
-        IfSome result (λ to. TStep (system_of joint.now) t e sight.action to sight.env × CanMove (system_of joint.now) p sight.action sight.seat sight.state sight.env) }
+        IfSome result (λ to. TStep (system_of joint.now) t e observation.action to observation.env
+        × MayBeObserved (system_of joint.now) p observation) }
     ensures none { let p : Pair = record { t = t; e = e; bs = states.now } in
-        IfNone result (CanMove (system_of joint.now) p sight.action sight.seat sight.state sight.env → ⊥) }
+        IfNone result (MayBeObserved (system_of joint.now) p observation → ⊥) }
 {
-    target_after(joint, t, e, states[sight.seat as usize], sight)
+    target_after(joint, t, e, states[observation.seat as usize], observation)
 }
 
-// Returns the target's state after the action that `sight` describes. Before it, the target is in
+// Returns the target's state after the action that `observation` describes. Before it, the target is in
 // state `t`, the environment in state `e`, and the service in state `b`.
-fn target_after(joint: &Joint, t: u8, e: u8, b: u8, sight: Sight) -> Option<u8>
-    requires before { (p : Pair) × IsBefore (system_of joint.now) t e b sight p }
-    requires ready { IsTrue (is_ready (slice_get (system_of joint.now).seats sight.seat)) }
-    ensures moves { (p : Pair) → IsBefore (system_of joint.now) t e b sight p →
-        IfSome result (λ to. TStep (system_of joint.now) p.t p.e sight.action to sight.env × CanMove (system_of joint.now) p sight.action sight.seat sight.state sight.env) }
-    ensures none { (p : Pair) → IsBefore (system_of joint.now) t e b sight p →
-        IfNone result (CanMove (system_of joint.now) p sight.action sight.seat sight.state sight.env → ⊥) }
+fn target_after(joint: &Joint, t: u8, e: u8, b: u8, observation: Observation) -> Option<u8>
+    requires before { (p : Pair) × IsBefore (system_of joint.now) t e b observation p }
+    requires ready { IsTrue (is_ready (joint_seat joint.now observation.seat)) }
+    ensures moves { (p : Pair) → IsBefore (system_of joint.now) t e b observation p →
+        IfSome result (λ to. TStep (system_of joint.now) p.t p.e observation.action to observation.env
+        × MayBeObserved (system_of joint.now) p observation) }
+    ensures none { (p : Pair) → IsBefore (system_of joint.now) t e b observation p →
+        IfNone result (MayBeObserved (system_of joint.now) p observation → ⊥) }
 {
     joint.known(); // behaviours and the target are over the environment
-    if !holds(joint.environment().next(e, sight.action), sight.env) {
+    if !holds(
+        joint.environment().next(e, observation.action),
+        observation.env,
+    ) {
         return None;
     }
-    let behaviour = joint.behaviour(sight.seat);
-    if !holds(behaviour.out(b, e, sight.action), sight.state) {
+    let behaviour = joint.behaviour(observation.seat);
+    if !holds(behaviour.out(b, e, observation.action), observation.state) {
         return None;
     }
-    joint.target().step(t, e, sight.action)
+    joint.target().step(t, e, observation.action)
 }
 
 // Returns whether a state is one of `states`.

@@ -2,11 +2,11 @@
 ghost use Rattle.std.specs.Prelude.{◌≢◌, ◌<◌, IsTrue};
 ghost use Rattle.roman_model.specs.System.{has};
 ghost use Rattle.roman_model.specs.SystemArena.{is_allowed};
-ghost use Rattle.roman_model.specs.Numbers.{sizes_of, count, pair_at};
 ghost use Rattle.roman_model.specs.Offers.{is_related, offers};
 ghost use Rattle.roman_rules.specs.Bits.{HasBits};
 ghost use Rattle.roman_joint.specs.NamedSys.{system_of};
-ghost use Rattle.roman_relation.specs.Greatest.{IsRelation};
+ghost use Rattle.roman_relation.specs.Greatest.{IsUpToDate};
+ghost use Rattle.roman_joint.specs.Pairs.{joint_pairs, joint_pair};
 
 use roman_relation::Relation;
 use roman_rules::SeatSet;
@@ -19,11 +19,11 @@ use roman_rules::SeatSet;
 /// These are the offers of the orchestrator generator of De Giacomo, Patrizi and Sardina, "Automatic
 /// Behavior Composition Synthesis" (Artificial Intelligence 196, 2013).
 pub fn offers(relation: &Relation, p: u32, a: u8) -> SeatSet
-    requires complete { IsRelation relation.now.joint relation.now.order }
-    requires pair { p < count (sizes_of (system_of relation.now.joint)) }
-    requires related { IsTrue (is_related (system_of relation.now.joint) (pair_at (sizes_of (system_of relation.now.joint)) p)) }
-    requires allowed { IsTrue (is_allowed (system_of relation.now.joint) (pair_at (sizes_of (system_of relation.now.joint)) p) a) }
-    ensures offers { HasBits result (has (offers (system_of relation.now.joint) (pair_at (sizes_of (system_of relation.now.joint)) p) a)) }
+    requires complete { IsUpToDate relation.now }
+    requires pair { p < joint_pairs relation.now.joint }
+    requires related { IsTrue (is_related (system_of relation.now.joint) (joint_pair relation.now.joint p)) }
+    requires allowed { IsTrue (is_allowed (system_of relation.now.joint) (joint_pair relation.now.joint p) a) }
+    ensures offers { HasBits result (has (offers (system_of relation.now.joint) (joint_pair relation.now.joint p) a)) }
     ensures some { result ≢ 0 }
 {
     relation.joint.known(); // the system is well formed

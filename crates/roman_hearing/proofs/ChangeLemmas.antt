@@ -1,8 +1,9 @@
 -- Each change of the services that isn't refused can be made.
-use Rattle.roman_hearing.proofs.Common.{AreBehaviours, CanChange, Change, Die, Freeze, IsIn, IsNamedSys, IsPair, IsPair-grown, IsPair-turned, IsPair-without, IsSituation, Join, MAX_SERVICES, NamedSys, Pair, Situation, Some, State, Sys, Thaw, [], after, arith, beh_at, cells, false, frozen_known, frozen_system, get_or_from_slice_get, gone_known, gone_system, joined_known, joined_system, length, length-map, map, present_system, remove, seat_name, seat_of, shown, slice_get, subst, sym, there_is, true, with_frozen, with_services, ℕ, ◌++◌, ◌<◌, ◌∷◌, ◌≡◌, ◌≤◌}
+use Rattle.roman_hearing.proofs.Common.{AreBehaviours, CanChange, Change, Die, Freeze, IsIn, IsNamedSys, IsPair, IsPair-grown, IsPair-turned, IsPair-without, IsSituation, Join, MAX_SERVICES, NamedSys, Pair, ServiceChange, Situation, Some, State, Sys, Thaw, [], after, arith, beh_at, cells, change_at, false, frozen_known, frozen_system, get_or_from_slice_get, gone_known, gone_system, joined_known, joined_system, length, length-map, map, present_system, remove, seat_name, seat_of, services_after, shown, slice_get, states_after, subst, sym, there_is, true, with_frozen, with_services, ℕ, ◌++◌, ◌<◌, ◌∷◌, ◌≡◌, ◌≤◌}
 use Rattle.roman_model.specs.System.{Seat}
 use Rattle.roman_joint.specs.declared.seat.Seat.{Seat as Service}
 use Rattle.roman_joint.specs.NamedSys as joint
+use Rattle.roman_session.specs.declared.events.ServiceChange.TheVariants as kind
 use Rattle.roman_hearing.proofs.WithinLemmas.{beh_within}
 
 -- the change leads to a well-formed system and to one of its pairs
@@ -17,24 +18,25 @@ module _ (s : Situation) (is : IsSituation s) where
   pair_then : (change : Change) (parts : NamedSys) (p : Pair) → joint.system_of parts ≡ after change (present_system s) → IsPair (after change (present_system s)) p → IsPair (joint.system_of parts) p
   pair_then change parts p same pair = subst (λ (s : Sys). IsPair s p) (sym same) pair
 
-  pub freezes_can : (k : ℕ) → k < length s.parts.seats → CanMake s (Freeze k) (with_services (shown s) (with_frozen s.parts.seats k true) s.here.bs)
-  freezes_can k l = record {
+  -- the seat of a present service
+  pub seat_there : (k : ℕ) → k < length s.parts.seats → (seat : Seat) × (slice_get (present_system s).seats k ≡ Some seat)
+  seat_there k l = there_is (present_system s).seats k (omega (arith, l, length-map s.parts.seats (seat_of s.parts.catalogue)))
+
+  pub changes_can : (change : ServiceChange) (k : ℕ) (seat : Seat) → k < length s.parts.seats → slice_get (present_system s).seats k ≡ Some seat →
+      CanMake s (change_at change k seat) (with_services (shown s) (services_after change s.parts.seats k) (states_after change s.here.bs k))
+  changes_can kind.Freeze k seat l at = record {
     can = omega (arith, l, length-map s.parts.seats (seat_of s.parts.catalogue));
     same = frozen_system s.parts k true;
     known = frozen_known s.parts k true is.parts l;
     pair = pair_then (Freeze k) (record s.parts { seats = with_frozen s.parts.seats k true }) s.here (frozen_system s.parts k true) (IsPair-turned (present_system s) k true s.here is.here);
   }
-
-  pub thaws_can : (k : ℕ) → k < length s.parts.seats → CanMake s (Thaw k) (with_services (shown s) (with_frozen s.parts.seats k false) s.here.bs)
-  thaws_can k l = record {
+  changes_can kind.Thaw k seat l at = record {
     can = omega (arith, l, length-map s.parts.seats (seat_of s.parts.catalogue));
     same = frozen_system s.parts k false;
     known = frozen_known s.parts k false is.parts l;
     pair = pair_then (Thaw k) (record s.parts { seats = with_frozen s.parts.seats k false }) s.here (frozen_system s.parts k false) (IsPair-turned (present_system s) k false s.here is.here);
   }
-
-  pub dies_can : (k : ℕ) (seat : Seat) → k < length s.parts.seats → slice_get (present_system s).seats k ≡ Some seat → CanMake s (Die k seat) (with_services (shown s) (remove s.parts.seats k) (remove s.here.bs k))
-  dies_can k seat l at =
+  changes_can kind.Die k seat l at =
       let (x, there) = there_is s.parts.seats k l in
       record {
         can = at;

@@ -1,14 +1,10 @@
 -- How a session that is read from a source ends.
-use Rattle.roman_hearing.proofs.Common.{◌≡◌, ℕ, ◌+◌, ◌<◌, ◌≤◌, false, List, [], ◌∷◌, ◌++◌, length, take, drop, nat_le, Option, Result, Ok, Err, IsTrue, refl, sym, ap, ◌∙◌, subst, arith, append_assoc, append-nil, length-append, take-append-drop, ◌-◌, ltb, OnOk, IsErrOf, length-take, take_at, le-leb, cond-true, cond-false, or_from, or_left, or_right, lt-leb, Gave, GaveAtMost, EndsAt, Had, Gave-then, gave_at_most, WrotePrefix-append, had_more, had_all, lines, ended_lines, text_of_lines, MAX_SESSION_BYTES, by_test, unfinished, kept, lines_none, kept-nil, lines_are, lines_only, Situation, Told, AreNamed, has_quit, is_heard_out, heard_lines, Tells, TellsPrefix, prefix_of, GaveQuit, StreamState, IsHeardOut, IsCutOff, StopsShort, TellsPrefixOfAll, reader_state, IsHearing, StopsAtQuit, FallsShort, FailsIn, HearsPiece, HearsRest, take-append-add, HearError, ReadFault, WriteFault, TooLong}
+use Rattle.roman_hearing.proofs.Common.{◌≡◌, ℕ, ◌+◌, ◌<◌, ◌≤◌, false, List, [], ◌∷◌, ◌++◌, length, take, drop, nat_le, Option, Result, Ok, Err, IsTrue, refl, sym, ap, ◌∙◌, subst, arith, append_assoc, append-nil, length-append, take-append-drop, ◌-◌, ltb, OnOk, IsErrOf, length-take, take_at, le-leb, cond-true, cond-false, or_from, or_left, or_right, lt-leb, Gave, GaveAtMost, EndsAt, Had, Gave-then, gave_at_most, WrotePrefix-append, had_more, had_all, lines, ended_lines, text_of_lines, MAX_SESSION_BYTES, by_test, unfinished, kept, lines_none, kept-nil, lines_are, lines_only, Situation, Told, AreNamed, has_quit, is_heard_out, heard_lines, Tells, TellsPrefix, prefix_of, GaveQuit, StreamState, IsHeardOut, IsCutOff, StopsShort, TellsPrefixOfAll, reader_state, IsHearing, StopsAtQuit, FallsShort, FailsIn, HearsPiece, HearsRest, HearError, ReadFault, WriteFault, TooLong, take_past}
 use Rattle.roman_hearing.proofs.HearingLines.{ended_more, lines_more, quit_left, told_stops}
 use Rattle.roman_hearing.proofs.HearingSteps.{told_more}
 use Rattle.roman_hearing.proofs.HearingLemmas.{whole_told}
 
 -- ---- the limit of a session
-
--- the first bytes of a session that begins with bytes within the limit
-prefix-append : (limit : ℕ) (heard rest : List ℕ) → length heard ≤ limit → take limit (heard ++ rest) ≡ heard ++ take (limit - length heard) rest
-prefix-append limit heard rest few = grind (arith, (take-append-add heard rest (limit - length heard)))
 
 -- a session within the limit isn't too long
 pub short_out : (session : List ℕ) → length session ≤ MAX_SESSION_BYTES → IsTrue (is_heard_out session)
@@ -16,7 +12,7 @@ short_out session few = or_left (nat_le (length session) MAX_SESSION_BYTES) (has
 
 -- a session with a line `quit` that ends within the limit isn't too long
 quit_out : (heard rest : List ℕ) → length heard ≤ MAX_SESSION_BYTES → IsTrue (has_quit (ended_lines heard)) → IsTrue (is_heard_out (heard ++ rest))
-quit_out heard rest few quit = grind (arith, (ended_more heard (take (MAX_SESSION_BYTES - length heard) rest)), or_right, (prefix-append MAX_SESSION_BYTES heard rest few), quit_left)
+quit_out heard rest few quit = grind (arith, (ended_more heard (take (MAX_SESSION_BYTES - length heard) rest)), or_right, (take_past MAX_SESSION_BYTES heard rest few), quit_left)
 
 -- the answered lines begin with the whole lines of first bytes within the limit
 heard_more : (heard rest : List ℕ) → length heard ≤ MAX_SESSION_BYTES → (more : List (List ℕ)) × (heard_lines (heard ++ rest) ≡ ended_lines heard ++ more)
@@ -29,7 +25,7 @@ heard_more heard rest few =
     )) (λ long.
     let (more, e) = ended_more heard (take (MAX_SESSION_BYTES - length heard) rest) in
     let first = cond-false (is_heard_out (heard ++ rest)) (lines (heard ++ rest)) (ended_lines (prefix_of (heard ++ rest))) long in
-    grind (arith, (prefix-append MAX_SESSION_BYTES heard rest few)))
+    grind (arith, (take_past MAX_SESSION_BYTES heard rest few)))
 
 -- how a session ends without a fault of the source
 pub record Ends (old new : StreamState) (r : Result (Unit {0}) HearError) : Type 0 where

@@ -1,8 +1,9 @@
 -- Every line has an answer.
-use Rattle.roman_hearing.proofs.Common.{Bool, Change, CountsLost, Delegated, Entry, Err, Idle, IsComplete, IsGreat, IsIn, IsKnownSituation, IsPhase, IsReady, IsRepair, IsSituation, IsTrue, LineError, LineShape, List, MAX_SERVICES, None, Offered, Ok, Option, Pair, Phase, Place, Reply, Result, Situation, Some, State, Step, StepBy, Sys, Tests, [], abort, after, and_from, and_parts, any_false, any_true, arena, arith, ask, beh_name, both_ways, by_test, cases_lt, cells, die, eq-eqb, eqb-true, explain, explain_text, explains, false, false≢true, freeze, from_allowed, from_outcome, get_in, great_tests, hand, has, inl, inr, is_allowed, is_name, is_related, join, jump, jump_env, length, length-map, list_any, lost_counted, map, may_tests, name_at, names_in, no_place, not, nothing, offer_text, offered_tests, offers, order_goes_on, outcome_in, outcomes, place_of, place_there, present_system, quit, ready_tests, refl, rename, renaming_keeps, replay, replay_sublist, reply_text, report, report_text, reports, same_numbers, same_numbers_is, same_numbers_itself, saw, seat_name, seat_names, seat_of, shape_of, shown, slice_set, states_of_behaviour, sublist_in, subst, sym, system_of, thaw, there_is, true, ℕ, ◌&&◌, ◌++◌, ◌<◌, ◌==◌, ◌∷◌, ◌≡◌, ◌≤◌, ◌⊎◌, SStep, TStep, Needs, Unless, Refuses, offers_said, in_place}
+use Rattle.roman_hearing.proofs.Common.{Bool, Change, CountsLost, Delegated, Entry, Err, Idle, IsComplete, IsGreat, IsIn, IsKnownSituation, IsPhase, IsReady, IsRepair, IsSituation, IsTrue, LineError, LineShape, List, MAX_SERVICES, None, Offered, Ok, Option, Pair, Phase, Place, Reply, Result, Situation, Some, State, Step, ServiceChange, IsAt, RepairsList, change_at, services_after, states_after, with_services, StepBy, Sys, Tests, [], abort, after, and_from, and_parts, any_false, any_true, arena, arith, request, beh_name, both_ways, by_test, cases_lt, cells, die, eq-eqb, eqb-true, explain, explain_text, explains, false, false≢true, freeze, from_allowed, from_outcome, get_in, great_tests, delegate, has, inl, inr, is_allowed, is_name, is_related, join, jump, jump_env, length, list_any, lost_counted, map, may_tests, name_at, names_in, not, nothing, offer_text, offered_tests, offers, order_goes_on, outcome_in, outcomes, place_of, place_there, present_system, quit, ready_tests, refl, rename, renaming_keeps, replay, replay_sublist, reply_text, report, report_text, reports, same_numbers, same_numbers_is, same_numbers_itself, observe, seat_name, seat_names, shape_of, shown, slice_set, states_of_behaviour, sublist_in, subst, sym, system_of, thaw, there_is, true, ℕ, ◌&&◌, ◌++◌, ◌<◌, ◌==◌, ◌∷◌, ◌≡◌, ◌≤◌, ◌⊎◌, SStep, TStep, Needs, Unless, Refuses, offers_said, in_place, none_absent}
 use Rattle.roman_text.specs.declared.replies.Reply.TheVariants as reply
 use Rattle.roman_joint.specs.declared.seat.Seat.{Seat}
-use Rattle.roman_hearing.proofs.ChangeLemmas.{CanMake, freezes_can, thaws_can, dies_can, joins_can}
+use Rattle.roman_session.specs.declared.events.ServiceChange.TheVariants as kind
+use Rattle.roman_hearing.proofs.ChangeLemmas.{CanMake, changes_can, joins_can, seat_there}
 use Rattle.roman_hearing.proofs.KnownLemmas.{situation_of, steps_known}
 use Rattle.roman_hearing.proofs.WithinLemmas.{behaviour_within, new_state_within, seat_within}
 
@@ -45,7 +46,7 @@ by_place : (names : List (List ℕ)) (name : List ℕ) → Decided (Place names 
 by_place names name = at (place_of names name) refl
   where
     at : (o : Option ℕ) → place_of names name ≡ o → Decided (Place names name)
-    at None e = inr (λ (i, there). no_place names name e (get_in names i name there))
+    at None e = inr (λ (i, there). none_absent names name e (get_in names i name there))
     at (Some i) e = inl (i, place_there names name i e)
 
 by_name : (names : List (List ℕ)) (name : List ℕ) → Decided (IsIn name names)
@@ -54,9 +55,9 @@ by_name names name = elim (by_place names name) [ inl (i, there) ↦ inl (get_in
 by_ready : (s : Situation) (k : ℕ) → k < length s.parts.seats → Decided (IsReady (shown s) k)
 by_ready s k l = let (seat, seated) = there_is s.parts.seats k l in by_tests (not seat.frozen) (ready_tests s.parts s k seat refl seated)
 
--- ---- outcomes that are seen
+-- ---- outcomes that are observed
 
--- an outcome shows that the states can be seen
+-- an outcome shows that the states can be observed
 shows : ℕ → List ℕ → Pair → Bool
 shows e bs q = (q.e == e) && same_numbers q.bs bs
 
@@ -144,26 +145,36 @@ module _ (s : Situation) (known : IsKnownSituation s) where
   great : Decided (IsGreat (shown s))
   great = by_tests (is_related (present_system s) s.here) (great_tests s is)
 
+  -- a service changes
+  changes : (change : ServiceChange) (service : List ℕ) (k : ℕ) → IsAt s service k →
+      let next = with_services (shown s) (services_after change s.parts.seats k) (states_after change s.here.bs k) in
+      Answered (λ text new. (CountsLost next text × (shown new ≡ next)) × RepairsList s service (change_at change) text new)
+  changes change service k at =
+      let l = seat_within s service k at in
+      let (seat, there) = seat_there s is k l in
+      let made = made_there s _ _ is (changes_can s is change k seat l there) in
+      leads made.text (situation_of _ made.list) ((made.counts, refl), inr (k, at, (seat, there, made.repair)))
+
   step_by : (event : Result LineShape LineError) → Answered (StepBy s event)
   step_by (Err why) = leads (reply_text reply.ErrorLine) s ((refl, refl), refl)
   step_by (Ok nothing) = leads [] s ((refl, refl), refl)
-  step_by (Ok (ask action)) =
+  step_by (Ok (request action)) =
       needs reply.ErrorName refl (by_place s.parts.environment.actions action) (λ (a, at).
       needs reply.ErrorBusy refl (by_idle s.phase) (λ idle.
       needs reply.NoComposition refl great (λ great.
       needs reply.NotAllowed refl (by_tests (is_allowed (present_system s) s.here a) (may_tests s a is)) (λ may.
       leads (offer_text s a) (record s { phase = Offered a }) ((offers_said s a is may, refl), refl)))))
-  step_by (Ok (hand service)) =
+  step_by (Ok (delegate service)) =
       needs reply.ErrorName refl (by_place (map seat_name s.parts.seats) service) (λ (k, at).
-      needs reply.ErrorIdle refl (by_offered s.phase) (λ (a, asked).
-      needs reply.NotOffered refl (by_tests (has (offers (present_system s) s.here a) k) (offered_tests s a k is asked (seat_within s service k at))) (λ serves.
+      needs reply.ErrorIdle refl (by_offered s.phase) (λ (a, requested).
+      needs reply.NotOffered refl (by_tests (has (offers (present_system s) s.here a) k) (offered_tests s a k is requested (seat_within s service k at))) (λ serves.
       leads (reply_text (reply.Using service)) (record s { phase = Delegated a k }) ((refl, refl), refl))))
-  step_by (Ok (saw state env)) =
-      needs reply.ErrorIdle refl (by_delegated s.phase) (λ (a, k, handed).
+  step_by (Ok (observe state env)) =
+      needs reply.ErrorIdle refl (by_delegated s.phase) (λ (a, k, delegated).
       needs reply.ErrorName refl (by_place (seat_names (names_in s.parts) k).states state) (λ (b, at).
       needs reply.ErrorName refl (by_place s.parts.environment.states env) (λ (e, named).
       let bs = slice_set s.here.bs k b in
-      elim (by_outcome s a k e bs is (subst (IsPhase s) handed is.phase).0.1) [
+      elim (by_outcome s a k e bs is (subst (IsPhase s) delegated is.phase).0.1) [
         | inl (t, target, possible) ↦ leads (reply_text (reply.Now (name_at s.parts.target.states t) env)) (record s { here = record { t = t; e = e; bs = bs }; phase = Idle }) (inl (possible, (t, target, (refl, refl))), refl)
         | inr never ↦ leads (reply_text reply.Impossible) s (inr (never, (refl, refl)), refl)
       ])))
@@ -171,19 +182,14 @@ module _ (s : Situation) (known : IsKnownSituation s) where
   step_by (Ok (freeze service)) =
       needs reply.ErrorName (inl refl) (by_place (map seat_name s.parts.seats) service) (λ (k, at).
       needs reply.ErrorBusy (inl refl) (by_idle s.phase) (λ idle.
-      needs reply.ErrorFrozen (inl refl) (by_ready s k (seat_within s service k at)) (λ ready.
-      let made = made_there s _ _ is (freezes_can s is k (seat_within s service k at)) in leads made.text (situation_of _ made.list) ((made.counts, refl), inr (k, at, made.repair)))))
+      needs reply.ErrorFrozen (inl refl) (by_ready s k (seat_within s service k at)) (λ ready. changes kind.Freeze service k at)))
   step_by (Ok (thaw service)) =
       needs reply.ErrorName (inl refl) (by_place (map seat_name s.parts.seats) service) (λ (k, at).
       needs reply.ErrorBusy (inl refl) (by_idle s.phase) (λ idle.
-      unless reply.ErrorReady (inl refl) (by_ready s k (seat_within s service k at)) (λ frozen.
-      let made = made_there s _ _ is (thaws_can s is k (seat_within s service k at)) in leads made.text (situation_of _ made.list) ((made.counts, refl), inr (k, at, made.repair)))))
+      unless reply.ErrorReady (inl refl) (by_ready s k (seat_within s service k at)) (λ frozen. changes kind.Thaw service k at)))
   step_by (Ok (die service)) =
       needs reply.ErrorName (inl refl) (by_place (map seat_name s.parts.seats) service) (λ (k, at).
-      needs reply.ErrorBusy (inl refl) (by_idle s.phase) (λ idle.
-      let l = seat_within s service k at in
-      let (seat, there) = there_is (present_system s).seats k (omega (arith, l, length-map s.parts.seats (seat_of s.parts.catalogue))) in
-      let made = made_there s _ _ is (dies_can s is k seat l there) in leads made.text (situation_of _ made.list) ((made.counts, refl), inr (k, at, (seat, there, made.repair)))))
+      needs reply.ErrorBusy (inl refl) (by_idle s.phase) (λ idle. changes kind.Die service k at))
   step_by (Ok (join service behaviour state loose)) =
       needs reply.ErrorName (inl refl) (by_bool (is_name service)) (λ good.
       needs reply.ErrorName (inl refl) (by_place (map beh_name s.parts.catalogue) behaviour) (λ (i, at).

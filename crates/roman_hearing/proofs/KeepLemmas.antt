@@ -1,5 +1,5 @@
 -- Steps of a session change no parts but the services.
-use Rattle.roman_hearing.proofs.Common.{Answers, AreNamed, Err, LineError, LineShape, List, Needs, Ok, Result, Situation, State, Step, TurnsInto, Unless, [], abort, arith, ask, die, explain, freeze, hand, inl, inr, join, jump, jump_env, nothing, quit, refl, report, saw, shape_of, shown, subst, sym, thaw, ℕ, ◌∷◌, ◌≡◌}
+use Rattle.roman_hearing.proofs.Common.{Answers, AreNamed, Err, LineError, LineShape, List, Needs, Ok, Result, Situation, State, Step, TurnsInto, Unless, [], abort, arith, delegate, die, explain, freeze, inl, inr, join, jump, jump_env, nothing, observe, quit, refl, report, request, shape_of, shown, subst, sym, thaw, ℕ, ◌∷◌, ◌≡◌}
 
 -- all parts but the services stay the same
 abbrev pub Keeps : Situation → Situation → Type 0
@@ -31,11 +31,11 @@ module _ (s new : State) (text : List ℕ) where
   turn_keeps : (event : Result LineShape LineError) → TurnsInto s event text new → new.parts ≡ record s.parts { seats = new.parts.seats }
   turn_keeps (Err why) turn = stays turn
   turn_keeps (Ok nothing) (says, same) = leads s refl same
-  turn_keeps (Ok (ask action)) turn =
+  turn_keeps (Ok (request action)) turn =
       needs_elim stays (λ (a, at). needs_elim stays (λ idle. needs_elim stays (λ great. needs_elim stays (λ may (says, same). leads _ refl same)))) turn
-  turn_keeps (Ok (hand service)) turn = needs_elim stays (λ (k, at). needs_elim stays (λ (a, asked). needs_elim stays (λ serves (says, same). leads _ refl same))) turn
-  turn_keeps (Ok (saw state env)) turn =
-      needs_elim stays (λ (a, k, handed). needs_elim stays (λ (b, at). needs_elim stays (λ (e, named). needs_elim stays (λ possible (t, target, (says, same)). leads _ refl same)))) turn
+  turn_keeps (Ok (delegate service)) turn = needs_elim stays (λ (k, at). needs_elim stays (λ (a, requested). needs_elim stays (λ serves (says, same). leads _ refl same))) turn
+  turn_keeps (Ok (observe state env)) turn =
+      needs_elim stays (λ (a, k, delegated). needs_elim stays (λ (b, at). needs_elim stays (λ (e, named). needs_elim stays (λ possible (t, target, (says, same)). leads _ refl same)))) turn
   turn_keeps (Ok abort) turn = unless_elim stays (λ busy (says, same). leads _ refl same) turn
   turn_keeps (Ok (freeze service)) turn = needs_elim stays (λ (k, at). needs_elim stays (λ idle. needs_elim stays (λ ready (says, same). leads _ refl same))) turn
   turn_keeps (Ok (thaw service)) turn = needs_elim stays (λ (k, at). needs_elim stays (λ idle. unless_elim stays (λ frozen (says, same). leads _ refl same))) turn

@@ -1,7 +1,8 @@
 -- Steps lead from well-formed situations to well-formed ones.
-use Rattle.roman_hearing.proofs.Common.{Change, Entry, Err, Idle, IsComplete, IsKnownSituation, IsNamedSys, IsPair, IsPhase, IsRepair, IsSituation, LineError, LineShape, List, Ok, Pair, Result, Situation, State, Step, StepBy, StepsStayKnown, abort, allowed_in, arith, ask, die, explain, freeze, great_related, hand, hand_opens, inl, inr, join, jump, jump_env, jumped_pair, length-map, nothing, outcome_in, outcome_pair, present_system, quit, refl, report, saw, seat_of, shape_of, shown, slice_get_within, subst, sym, system_of, thaw, there_is, ℕ, ◌<◌, ◌≡◌}
+use Rattle.roman_hearing.proofs.Common.{Change, Entry, Err, Idle, IsAt, IsComplete, IsKnownSituation, IsNamedSys, IsPair, IsPhase, IsRepair, IsSituation, LineError, LineShape, List, Ok, Pair, Result, ServiceChange, Situation, State, Step, StepBy, StepsStayKnown, abort, allowed_in, arith, delegate, delegate_opens, die, explain, freeze, great_related, inl, inr, join, jump, jump_env, jumped_pair, nothing, observe, outcome_in, outcome_pair, present_system, quit, refl, report, request, services_after, shape_of, shown, slice_get_within, states_after, subst, sym, system_of, thaw, with_services, ℕ, ◌<◌, ◌≡◌}
+use Rattle.roman_session.specs.declared.events.ServiceChange.TheVariants as kind
 use Rattle.roman_hearing.proofs.KeepLemmas.{line_keeps, named_stay, needs_elim, unless_elim}
-use Rattle.roman_hearing.proofs.ChangeLemmas.{CanMake, freezes_can, thaws_can, dies_can, joins_can}
+use Rattle.roman_hearing.proofs.ChangeLemmas.{CanMake, changes_can, joins_can, seat_there}
 use Rattle.roman_hearing.proofs.WithinLemmas.{behaviour_within, new_state_within, seat_within, state_within}
 
 -- a situation from its state and its list
@@ -44,35 +45,37 @@ module _ (old new : Situation) (text : List ℕ) (known : IsKnownSituation old) 
   makes : {change made : Change} (next : State) → IsRepair old change text new → CanMake old made next → next.phase ≡ Idle → shown new ≡ next → IsSituation new
   makes next repair can idle same = goes_idle next same (repaired next repair same) can.known can.pair idle
 
+  changes : {made : Change} (change : ServiceChange) (service : List ℕ) (k : ℕ) → IsRepair old made text new → IsAt old service k → old.phase ≡ Idle →
+      shown new ≡ with_services (shown old) (services_after change old.parts.seats k) (states_after change old.here.bs k) → IsSituation new
+  changes change service k repair at idle same =
+      let l = seat_within old service k at in
+      let (seat, seated) = seat_there old is k l in
+      makes _ repair (changes_can old is change k seat l seated) idle same
+
   -- any event
 
   event_known : (event : Result LineShape LineError) → StepBy old event text new → IsSituation new
   event_known (Err why) (turn, list) = stays list turn
   event_known (Ok nothing) ((says, same), list) = same_state list same
-  event_known (Ok (ask action)) (turn, list) =
+  event_known (Ok (request action)) (turn, list) =
       needs_elim (stays list) (λ (a, at). needs_elim (stays list) (λ idle. needs_elim (stays list) (λ great. needs_elim (stays list) (λ may (says, same).
       goes _ same (left list) is.parts is.here (great_related (present_system old) old.here is.parts.system great, allowed_in (present_system old) old.here a is.parts.system may))))) turn
-  event_known (Ok (hand service)) (turn, list) =
-      needs_elim (stays list) (λ (k, at). needs_elim (stays list) (λ (a, asked). needs_elim (stays list) (λ serves (says, same).
-      goes _ same (left list) is.parts is.here (hand_opens old a k is asked serves (seat_within old service k at))))) turn
-  event_known (Ok (saw state env)) (turn, list) =
-      needs_elim (stays list) (λ (a, k, handed). needs_elim (stays list) (λ (b, at). needs_elim (stays list) (λ (e, named). needs_elim (stays list) (λ possible (t, target, (says, same)).
+  event_known (Ok (delegate service)) (turn, list) =
+      needs_elim (stays list) (λ (k, at). needs_elim (stays list) (λ (a, requested). needs_elim (stays list) (λ serves (says, same).
+      goes _ same (left list) is.parts is.here (delegate_opens old a k is requested serves (seat_within old service k at))))) turn
+  event_known (Ok (observe state env)) (turn, list) =
+      needs_elim (stays list) (λ (a, k, delegated). needs_elim (stays list) (λ (b, at). needs_elim (stays list) (λ (e, named). needs_elim (stays list) (λ possible (t, target, (says, same)).
       goes_idle _ same (left list) is.parts (outcome_pair _ _ _ _ _ is.parts.system is.here (outcome_in _ _ _ _ _ _ _ is.parts.system target possible)) refl)))) turn
   event_known (Ok abort) (turn, list) = unless_elim (stays list) (λ busy (says, same). goes_idle _ same (left list) is.parts is.here refl) turn
   event_known (Ok (freeze service)) (turn, inl same) = subst IsSituation (sym same) is
-  event_known (Ok (freeze service)) (turn, inr (j, there, repair)) =
-      needs_elim (stops repair) (λ (k, at). needs_elim (stops repair) (λ idle. needs_elim (stops repair) (λ ready (says, same).
-      makes _ repair (freezes_can old is k (seat_within old service k at)) idle same))) turn
+  event_known (Ok (freeze service)) (turn, inr (j, there, (seat, seated, repair))) =
+      needs_elim (stops repair) (λ (k, at). needs_elim (stops repair) (λ idle. needs_elim (stops repair) (λ ready (says, same). changes kind.Freeze service k repair at idle same))) turn
   event_known (Ok (thaw service)) (turn, inl same) = subst IsSituation (sym same) is
-  event_known (Ok (thaw service)) (turn, inr (j, there, repair)) =
-      needs_elim (stops repair) (λ (k, at). needs_elim (stops repair) (λ idle. unless_elim (stops repair) (λ frozen (says, same).
-      makes _ repair (thaws_can old is k (seat_within old service k at)) idle same))) turn
+  event_known (Ok (thaw service)) (turn, inr (j, there, (seat, seated, repair))) =
+      needs_elim (stops repair) (λ (k, at). needs_elim (stops repair) (λ idle. unless_elim (stops repair) (λ frozen (says, same). changes kind.Thaw service k repair at idle same))) turn
   event_known (Ok (die service)) (turn, inl same) = subst IsSituation (sym same) is
-  event_known (Ok (die service)) (turn, inr (j, there, (gone, seated, repair))) =
-      needs_elim (stops repair) (λ (k, at). needs_elim (stops repair) (λ idle (says, same).
-      let l = seat_within old service k at in
-      let (seat, is_seat) = there_is (present_system old).seats k (omega (arith, l, length-map old.parts.seats (seat_of old.parts.catalogue))) in
-      makes _ repair (dies_can old is k seat l is_seat) idle same)) turn
+  event_known (Ok (die service)) (turn, inr (j, there, (seat, seated, repair))) =
+      needs_elim (stops repair) (λ (k, at). needs_elim (stops repair) (λ idle (says, same). changes kind.Die service k repair at idle same)) turn
   event_known (Ok (join service behaviour state loose)) (turn, inl same) = subst IsSituation (sym same) is
   event_known (Ok (join service behaviour state loose)) (turn, inr (joined, seats, repair)) =
       needs_elim (stops repair) (λ good. needs_elim (stops repair) (λ (i, at). needs_elim (stops repair) (λ (b, named). needs_elim (stops repair) (λ idle.

@@ -4,25 +4,25 @@ use Rattle.roman_model.specs.Lists.{IsIn}
 use Rattle.roman_model.specs.System.{Sys, Pair}
 use Rattle.roman_model.specs.SystemArena.{outcomes, is_allowed}
 use Rattle.roman_model.specs.Offers.{is_related, offers}
-use Rattle.roman_text.specs.Shapes.{saw, shape_of}
+use Rattle.roman_text.specs.Shapes.{observe, shape_of}
 use Rattle.roman_session.specs.declared.phase.Phase.TheVariants.{Delegated}
 use Rattle.roman_session.specs.Situations.{Situation, present_system, IsSituation}
 use Rattle.roman_session.specs.Steps.{Step, shown}
 use Rattle.roman_session.specs.Reports.{report_text}
 use Rattle.roman_start.specs.Starts.{parts_of, start_pair_of}
 use Rattle.roman_session.specs.Afresh.{afresh}
-use Rattle.roman_session.specs.States.{State, IsGreat, MayAsk, IsOpenGreat}
+use Rattle.roman_session.specs.States.{State, IsGreat, MayRequest, IsOpenGreat}
 use Rattle.roman_session.specs.Turns.{TurnsInto}
 use Rattle.roman_session.specs.Words.{ReportsGreat}
 
 -- some seat is offered for each action that the target allows at a related pair
 abbrev pub RequestsAreOffered : Type 0
-RequestsAreOffered = (s : Situation) (a : ℕ) → IsSituation s → IsGreat (shown s) → MayAsk (shown s) a → offers (present_system s) s.here a ≢ []
+RequestsAreOffered = (s : Situation) (a : ℕ) → IsSituation s → IsGreat (shown s) → MayRequest (shown s) a → offers (present_system s) s.here a ≢ []
 
--- after an outcome of a delegated request is seen, the current pair is related
+-- after an outcome of a delegated request is observed, the current pair is related
 abbrev pub OutcomesAreRelated : Type 0
 OutcomesAreRelated = (old new : Situation) (state env text : List ℕ) (a k : ℕ) → IsSituation old → old.phase ≡ Delegated a k →
-    TurnsInto (shown old) (Ok (saw state env)) text (shown new) → IsGreat (shown new)
+    TurnsInto (shown old) (Ok (observe state env)) text (shown new) → IsGreat (shown new)
 
 -- a seat that isn't offered for an allowed action has no outcome, or an outcome whose pair isn't related
 abbrev pub NotOfferedFails : Type 0

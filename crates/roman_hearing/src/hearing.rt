@@ -48,15 +48,23 @@ pub fn hear<S: Source, O: Sink, L: Ledger>(
 ) -> Result<(), HearError>
     // The replies to the whole session were written. For a session that is too long, the replies to
     // the lines that end within the limit were written.
-    ensures ok { OnOk result (IsHeardOut (stream_state session.old (S.rest source.old) (O.written out.old)) (cursor session.new (O.written out.new))) }
-    ensures too_long { IsErrOf result HearError.TooLong → IsCutOff (stream_state session.old (S.rest source.old) (O.written out.old)) (cursor session.new (O.written out.new)) }
+    ensures ok { OnOk result (IsHeardOut (stream_state session.old (S.rest source.old) (O.written out.old))
+        (cursor session.new (O.written out.new))) }
+    ensures too_long { IsErrOf result HearError.TooLong →
+        IsCutOff (stream_state session.old (S.rest source.old) (O.written out.old))
+        (cursor session.new (O.written out.new)) }
 
     // Each error has its cause. After a fault of the source each whole line that was taken is
     // answered. After a fault of the sink a prefix of the replies to the first taken lines was
     // written. It is also a prefix of possible replies to the whole session.
-    ensures read_fault { IsErrOf result HearError.ReadFault → GoesOn (stream_state session.old (S.rest source.old) (O.written out.old)) (stream_state session.new (S.rest source.new) (O.written out.new)) }
-    ensures write_fault { IsErrOf result HearError.WriteFault → StopsShort (stream_state session.old (S.rest source.old) (O.written out.old)) (stream_state session.new (S.rest source.new) (O.written out.new)) }
-    ensures prefix { IsErrOf result HearError.WriteFault → AreBehaviours session.old.parts → TellsPrefixOfAll (stream_state session.old (S.rest source.old) (O.written out.old)) (O.written out.new) }
+    ensures read_fault { IsErrOf result HearError.ReadFault →
+        GoesOn (stream_state session.old (S.rest source.old) (O.written out.old))
+        (stream_state session.new (S.rest source.new) (O.written out.new)) }
+    ensures write_fault { IsErrOf result HearError.WriteFault →
+        StopsShort (stream_state session.old (S.rest source.old) (O.written out.old))
+        (stream_state session.new (S.rest source.new) (O.written out.new)) }
+    ensures prefix { IsErrOf result HearError.WriteFault → AreBehaviours session.old.parts →
+        TellsPrefixOfAll (stream_state session.old (S.rest source.old) (O.written out.old)) (O.written out.new) }
     ensures reads { CausedBy HearError.ReadFault (S.faults source.old) (S.faults source.new) result }
     ensures writes { CausedBy HearError.WriteFault (O.faults out.old) (O.faults out.new) result }
 
@@ -64,7 +72,8 @@ pub fn hear<S: Source, O: Sink, L: Ledger>(
     // less than a piece was taken past the line `quit`. A source that reads from a shelf keeps that
     // shelf, and the shelf's texts stay the same.
     ensures taken { GaveAtMost (MAX_SESSION_BYTES + PIECE_BYTES) (S.rest source.old) (S.rest source.new) }
-    ensures past { OnOk result (IsAtEnd (S.rest source.new) ⊎ GaveQuit (PIECE_BYTES - 1) (S.rest source.old) (S.rest source.new)) }
+    ensures past { OnOk result (IsAtEnd (S.rest source.new)
+        ⊎ GaveQuit (PIECE_BYTES - 1) (S.rest source.old) (S.rest source.new)) }
     ensures borrowed { S.borrowed source.new ≡ S.borrowed source.old }
     ensures texts { S.texts source.new ≡ S.texts source.old }
 {
@@ -108,7 +117,8 @@ fn hear_piece<O: Sink, L: Ledger>(
     out: &mut O,
     steps: &mut Steps<L>,
 ) -> Result<Next, HearError>
-    ensures hears { (old : Cursor) (taken : List ℕ) → IsHearing old taken (reader_state session.old (O.written out.old) page.old splitter.old) →
+    ensures hears { (old : Cursor) (taken : List ℕ) →
+        IsHearing old taken (reader_state session.old (O.written out.old) page.old splitter.old) →
         HearsPiece room old taken piece.now (reader_state session.new (O.written out.new) [] splitter.new) result }
     ensures empty { IfOk result (λ _. page.new ≡ []) }
     ensures cause { CausedBy HearError.WriteFault (O.faults out.old) (O.faults out.new) result }
@@ -136,7 +146,8 @@ fn hear_bytes<O: Sink, L: Ledger>(
     out: &mut O,
     steps: &mut Steps<L>,
 ) -> Result<Next, Failed>
-    ensures hears { (old : Cursor) (taken : List ℕ) → IsHearing old taken (reader_state session.old (O.written out.old) page.old splitter.old) →
+    ensures hears { (old : Cursor) (taken : List ℕ) →
+        IsHearing old taken (reader_state session.old (O.written out.old) page.old splitter.old) →
         HearsBytes old taken bytes.now (reader_state session.new (O.written out.new) page.new splitter.new) result }
     ensures cause { HasCause (O.faults out.old) (O.faults out.new) result }
 {
@@ -162,8 +173,10 @@ fn hear_ended<O: Sink, L: Ledger>(
     steps: &mut Steps<L>,
 ) -> Result<Next, Failed>
     requires { IsLine part.now }
-    ensures hears { (old : Cursor) (taken : List ℕ) → IsHearing old taken (reader_state session.old (O.written out.old) page.old splitter.old) →
-        HearsBytes old taken (part.now ++ 10 ∷ []) (reader_state session.new (O.written out.new) page.new splitter.new) result }
+    ensures hears { (old : Cursor) (taken : List ℕ) →
+        IsHearing old taken (reader_state session.old (O.written out.old) page.old splitter.old) →
+        HearsBytes old taken (part.now ++ 10 ∷ [])
+        (reader_state session.new (O.written out.new) page.new splitter.new) result }
     ensures cause { HasCause (O.faults out.old) (O.faults out.new) result }
 {
     if !splitter.rest() {
@@ -185,7 +198,8 @@ fn hear_rest<O: Sink, L: Ledger>(
     steps: &mut Steps<L>,
 ) -> Result<(), HearError>
     requires { page.old ≡ [] }
-    ensures hears { (old : Cursor) (taken : List ℕ) → IsHearing old taken (reader_state session.old (O.written out.old) page.old splitter.now) →
+    ensures hears { (old : Cursor) (taken : List ℕ) →
+        IsHearing old taken (reader_state session.old (O.written out.old) page.old splitter.now) →
         HearsRest old taken (cursor session.new (O.written out.new)) result }
     ensures cause { CausedBy HearError.WriteFault (O.faults out.old) (O.faults out.new) result }
 {
@@ -209,7 +223,8 @@ fn hear_line<O: Sink, L: Ledger>(
     out: &mut O,
     steps: &mut Steps<L>,
 ) -> Result<Next, Failed>
-    ensures step { (whole : List ℕ) → kept line.now ≡ kept whole → AnsweredOn session.old whole session.new (O.written out.old) (O.written out.new) page.old page.new result }
+    ensures step { (whole : List ℕ) → kept line.now ≡ kept whole →
+        AnsweredOn session.old whole session.new (O.written out.old) (O.written out.new) page.old page.new result }
     ensures next { (whole : List ℕ) → kept line.now ≡ kept whole → IfOk result (λ next. next ≡ next_of whole) }
     ensures known { IsSituation session.new }
     ensures cause { HasCause (O.faults out.old) (O.faults out.new) result }

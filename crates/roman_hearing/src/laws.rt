@@ -11,7 +11,7 @@ pub fn requests_are_offered()
     ensures offered { RequestsAreOffered }
 {}
 
-/// After an outcome of a delegated request is seen, the current pair is related.
+/// After an outcome of a delegated request is observed, the current pair is related.
 pub fn outcomes_are_related()
     ensures related { OutcomesAreRelated }
 {}

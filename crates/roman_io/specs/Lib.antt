@@ -3,4 +3,5 @@ pub mod Faults
 pub mod Memory
 pub mod Shelf
 pub mod Sink
+pub mod SinkCalls
 pub mod Source

@@ -66,7 +66,8 @@ pub fn copy_piece(bytes: &[u8], at: usize, piece: usize, into: &mut [u8]) -> usi
 
 /// Appends the first half of a piece, rounded down. Appends nothing when out of memory.
 pub fn append_half(written: &mut Vec<u8>, piece: &[u8])
-    ensures half { (written.new.items ≡ written.old.items) ⊎ (written.new.items ≡ written.old.items ++ take (length piece.now / 2) piece.now) }
+    ensures half { (written.new.items ≡ written.old.items)
+        ⊎ (written.new.items ≡ written.old.items ++ take (length piece.now / 2) piece.now) }
     ensures prefix { (n : ℕ) × (written.new.items ≡ written.old.items ++ take n piece.now) }
 {
     let half = piece.len() / 2;

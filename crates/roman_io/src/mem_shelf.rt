@@ -46,11 +46,13 @@ impl Shelf for MemShelf {
 
     fn fetch(&mut self, name: &str, at: u64, into: &mut [u8]) -> Result<usize, Failed>
         ensures bound { IfOk result (λ n. n ≤ length into.new) }
-        ensures bytes { IfSome (Some self.old.texts) (λ ts. IfOk result (Fetches (shelf_text ts name.now) at into.new)) }
+        ensures bytes { IfSome (Some self.old.texts)
+            (λ ts. IfOk result (Fetches (shelf_text ts name.now) at into.new)) }
         ensures texts { Some self.new.texts ≡ Some self.old.texts }
         ensures cause { HasCause self.old.calls.faults self.new.calls.faults result }
         ensures fails { is_ok result ≡ (not (is_failing self.old.calls) && is_some (text_at self.old.texts name.now)) }
-        ensures count { IfOk result (λ n. n ≡ min (length (drop at (shelf_text self.old.texts name.now))) (length into.new)) }
+        ensures count { let text = shelf_text self.old.texts name.now in
+            IfOk result (λ n. n ≡ min (length (drop at text)) (length into.new)) }
         ensures ok { OnOk result (self.new.calls ≡ after_call self.old.calls) }
         ensures err { OnErr result (self.new.calls ≡ after_failed self.old.calls) }
     {

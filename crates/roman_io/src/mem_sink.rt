@@ -58,7 +58,9 @@ impl Sink for MemSink {
         ensures puts { Puts (Some self.old.written) (Some self.new.written) bytes.now result }
         ensures cause { HasCause self.old.calls.faults self.new.calls.faults result }
         ensures fails { OnOk result (is_failing self.old.calls ≡ false) }
-        ensures half { OnErr result ((self.new.written ≡ self.old.written) ⊎ ((is_failing self.old.calls ≡ true) × (self.new.written ≡ self.old.written ++ take (length bytes.now / 2) bytes.now))) }
+        ensures half { OnErr result ((self.new.written ≡ self.old.written)
+            ⊎ ((is_failing self.old.calls ≡ true) × (self.new.written
+            ≡ self.old.written ++ take (length bytes.now / 2) bytes.now))) }
         ensures ok { OnOk result (self.new.calls ≡ after_call self.old.calls) }
         ensures err { OnErr result (self.new.calls ≡ after_failed self.old.calls) }
     {

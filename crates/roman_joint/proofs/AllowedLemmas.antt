@@ -6,8 +6,8 @@ pub open_here : (s : Sys) (row : Row) (x a lane : ℕ) → IsRow s x row → lan
 open_here s row x a lane ok l = ap₂ (λ t e. not (is_empty (env_next s.env e a)) && not (is_empty (beh_next s.target t e a))) (ok.targets lane l) (ok.envs lane l)
 
 -- where an action leads somewhere, it is allowed
-pub turn_open : (s : Sys) (row : Row) (a : ℕ) (turn : TargetMove) → IsTargetMove s row a turn → is_open s row a ≡ true
-turn_open s row a turn ok = grind arith
+pub target_move_open : (s : Sys) (row : Row) (a : ℕ) (target_move : TargetMove) → IsTargetMove s row a target_move → is_open s row a ≡ true
+target_move_open s row a target_move ok = grind arith
 
 -- an action is a reason exactly where it is allowed and no seat serves it
 pub judged : (s : Sys) (row : Row) (x a lane : ℕ) (allowed : Bool) (gone : ℕ → Bool) → IsRow s x row → lane < lanes_in s → is_open s row a ≡ allowed →

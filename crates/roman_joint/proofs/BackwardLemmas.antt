@@ -1,5 +1,5 @@
 -- The delegations that are found backwards are those that lead to the pair.
-use Rattle.roman_joint.proofs.Common.{AreBelow-length, HasNoRepeats-below, HasNoRepeats-filter, HasNoRepeats-flat_map, HasNoRepeats-map, IsPairOf-from, from_back, from_beh_prev, from_below, from_env_prev, from_flat_map, from_map, from_outcome, in_back, in_beh_prev, in_below, in_env_prev, in_flat_map, in_map, move_in_range, numbered_is_arena, numbered_is_same, numbers_are_pairs, outcome_in, outcome_pair, seat_in, states_set, triple_in_range, Bool, IsFalse, IsTrue, List, None, Option, Some, [], ap, arith, cond, false, length, map, refl, slice_get, slice_index, slice_set, subst, sym, true, ℕ, ◌-◌, ◌<◌, ◌∙◌, ◌≡◌, Delegation, back, Env, IsBeh, IsPair, IsSys, Pair, Seat, Sys, has_move, has_triple, HasNoRepeats, HoldsEachOnce, IsIn, below, beh_prev, env_prev, outcomes, count, number, numbered, pair_at, sizes_of, flat_map, from_action, from_all, from_env, from_seat, from_target, seat_prev, get_or-set_same, length-map, set-get_or, set-set, slice_get_within}
+use Rattle.roman_joint.proofs.Common.{HasNoRepeats-below, HasNoRepeats-filter, HasNoRepeats-flat_map, HasNoRepeats-map, from_back, from_beh_prev, from_below, from_env_prev, from_flat_map, from_map, from_outcome, in_back, in_beh_prev, in_below, in_env_prev, in_flat_map, in_map, move_in_range, numbered_is_arena, numbered_is_same, numbers_are_pairs, outcome_in, outcome_pair, get_in, states_set, triple_in_range, Bool, IsFalse, IsTrue, List, None, Option, Some, [], ap, arith, cond, false, length, map, refl, slice_get, slice_index, slice_set, subst, sym, true, ℕ, ◌-◌, ◌<◌, ◌∙◌, ◌≡◌, Delegation, back, Env, IsBeh, IsPair, IsSys, Pair, Seat, Sys, has_move, has_triple, HasNoRepeats, HoldsEachOnce, IsIn, below, beh_prev, env_prev, outcomes, count, number, numbered, pair_at, sizes_of, flat_map, from_action, from_all, from_env, from_seat, from_target, seat_prev, get_or-set_same, set-get_or, set-set, slice_get_within, states_long}
 
 -- the delegation of a to the seat at k, from t, e and the seat's state b
 abbrev pub delegation : Sys → Pair → ℕ → ℕ → ℕ → ℕ → ℕ → Delegation ℕ
@@ -30,10 +30,6 @@ in_seat_prev env o seat b' e a b seated ok ready moves =
 state_steps : (s : Sys) (q : Pair) (a e t k b : ℕ) → IsIn e (env_prev s.env q.e a) → IsIn t (beh_prev s.target q.t e a) → IsIn b (seat_prev (slice_get s.seats k) (slice_index q.bs k) e a) → Steps s q a e t k b
 state_steps s q a e t k b in_env in_target in_states = grind (arith, from_beh_prev, from_env_prev, from_seat_prev)
 
--- one state for each seat
-length_of_pair : (s : Sys) (p : Pair) → IsPair s p → length p.bs ≡ length s.seats
-length_of_pair s p ok = AreBelow-length (map (λ seat. seat.beh.states) s.seats) p.bs (IsPairOf-from s p ok).bs ∙ length-map s.seats (λ seat. seat.beh.states)
-
 -- the pair from which the steps lead
 abbrev pub origin : Pair → ℕ → ℕ → ℕ → ℕ → Pair
 origin q e t k b = record { t = t; e = e; bs = slice_set q.bs k b }
@@ -43,12 +39,12 @@ origin_pair s q a e t k b sys ok steps =
     record {
       t = (move_in_range _ _ _ _ _ _ sys.target steps.goal).0;
       e = (triple_in_range _ _ _ _ sys.env steps.world).0;
-      bs = states_set _ _ _ _ _ ok.bs steps.seated (move_in_range _ _ _ _ _ _ (sys.seats steps.seat (seat_in _ _ _ steps.seated)) steps.moves).0;
+      bs = states_set _ _ _ _ _ ok.bs steps.seated (move_in_range _ _ _ _ _ _ (sys.seats steps.seat (get_in _ _ _ steps.seated)) steps.moves).0;
     }
 
 steps_lead : (s : Sys) (q : Pair) (a e t k b : ℕ) → IsSys s → IsPair s q → Steps s q a e t k b → IsIn q (outcomes s (origin q e t k b) a k)
 steps_lead s q a e t k b sys ok steps =
-    let within : k < length q.bs = omega (arith, length_of_pair _ _ ok, slice_get_within s.seats k steps.seat steps.seated) in
+    let within : k < length q.bs = omega (arith, states_long _ _ ok, slice_get_within s.seats k steps.seat steps.seated) in
     let here : slice_index (slice_set q.bs k b) k ≡ b = get_or-set_same q.bs k b 0 within in
     outcome_in _ _ _ _ _ _ _ sys (steps.world, steps.goal) (record {
       seat = steps.seat;
@@ -66,7 +62,7 @@ pub record Comes (s : Sys) (q p : Pair) (a k : ℕ) : Type 0 where
   pub from : origin q p.e p.t k (slice_index p.bs k) ≡ p
 
 outcome_steps : (s : Sys) (q p : Pair) (a k : ℕ) → IsPair s p → IsIn q (outcomes s p a k) → Comes s q p a k
-outcome_steps s q p a k ok i = grind (arith, from_outcome, get_or-set_same, length_of_pair, set-get_or, set-set, slice_get_within)
+outcome_steps s q p a k ok i = grind (arith, from_outcome, get_or-set_same, states_long, set-get_or, set-set, slice_get_within)
 
 -- the same by numbers
 pub pair_comes : (s : Sys) (p r a k : ℕ) → IsSys s → p < count (sizes_of s) → IsIn r ((numbered s).outcomes p a k) → Comes s (pair_at (sizes_of s) r) (pair_at (sizes_of s) p) a k
@@ -102,7 +98,7 @@ leads_found s p d sys below_p i =
     let r : Pair = pair_at (sizes_of s) d.node in
     let comes = pair_comes s d.node p d.action d.seat sys below_d j in
     let steps = comes.steps in
-    let states = in_seat_prev _ _ _ _ _ _ _ steps.seated (sys.seats steps.seat (seat_in _ _ _ steps.seated)) steps.ready steps.moves in
+    let states = in_seat_prev _ _ _ _ _ _ _ steps.seated (sys.seats steps.seat (get_in _ _ _ steps.seated)) steps.ready steps.moves in
     let node : number (sizes_of s) (origin (pair_at (sizes_of s) p) r.e r.t d.seat (slice_index r.bs d.seat)) ≡ d.node = ap (number (sizes_of s)) comes.from ∙ (numbers_are_pairs s).there d.node below_d in
     let found : IsIn (delegation s (pair_at (sizes_of s) p) d.action r.e r.t d.seat (slice_index r.bs d.seat)) (from_all s (pair_at (sizes_of s) p)) =
     in_flat_map _ _ _ _ (in_below _ _ (triple_in_range _ _ _ _ sys.env steps.world).1) (in_flat_map _ _ _ _ (in_env_prev _ _ _ _ sys.env steps.world)
@@ -142,7 +138,7 @@ module _ (s : Sys) (q : Pair) (sys : IsSys s) (ok : IsPair s q) where
       let at_b : Steps s q a e t k b = state_steps s q a e t k b in_env in_target i in
       let at_c : Steps s q a e t k c = state_steps s q a e t k c in_env in_target j in
       let pairs : origin q e t k b ≡ origin q e t k c = sym (back_at a e t k b at_b) ∙ (ap (λ x. pair_at (sizes_of s) x.node) same ∙ back_at a e t k c at_c) in
-      let within : k < length q.bs = omega (arith, length_of_pair s q ok, slice_get_within s.seats k at_b.seat at_b.seated) in
+      let within : k < length q.bs = omega (arith, states_long s q ok, slice_get_within s.seats k at_b.seat at_b.seated) in
       sym (get_or-set_same q.bs k b 0 within) ∙ (ap (λ p. slice_index p.bs k) pairs ∙ get_or-set_same q.bs k c 0 within))
       (seat_prev_once (slice_get s.seats k) (slice_index q.bs k) e a)
 

@@ -1,8 +1,8 @@
 -- Rows of a band.
-use Rattle.roman_joint.proofs.Common.{AreLaneMoves, Move, not-not, length-below, any_same, part_at, AreWithin, SuitsRows, ◌||◌, ◌≡◌, ℕ, ◌+◌, ◌-◌, ◌*◌, ◌/◌, ◌%◌, ◌<◌, ◌≤◌, ◌^◌, Bool, true, false, not, ◌&&◌, List, [], length, slice_get, slice_index, refl, sym, ap, ap₂, ◌∙◌, subst, arith, list_any, set, cases_eq, cases_lt, mul-add-lt, mul-le, mod_below, get_or-set_same, get_or-set_other, get_or_past, IsIn, is_empty, product_of, all_below, Sys, seat_next, is_beaten, sizes_of, count, pair_at, numbered, IsSizes, stride_of, low_of, row_sizes, env_rows_of, exact, lanes_few, AreSizes-index, low_of-le, lanes_positive, row_div, row_mod, row_below, env_rows_are, count_rows, length_rows, row_size, row_stride_of, IsSizes-rows, rows_are, is_on, AreRows, Keeps, lanes_in, low_in, lane_state_of, AreRowsOf, IsRow, IsTargetMove, mid_in, band_in, turn_at, AllAlive, AreRowsBefore, Rows, Row, TargetMove, on_zero, Outcomes}
+use Rattle.roman_joint.proofs.Common.{AreLaneMoves, Move, not-not, length-below, any_same, part_at, AreWithin, SuitsRows, ◌||◌, ◌≡◌, ℕ, ◌+◌, ◌-◌, ◌*◌, ◌/◌, ◌%◌, ◌<◌, ◌≤◌, ◌^◌, Bool, true, false, not, ◌&&◌, List, [], length, slice_get, slice_index, refl, sym, ap, ap₂, ◌∙◌, subst, arith, list_any, set, cases_eq, cases_lt, mul-add-lt, mul-le, mod_below, get_or-set_same, get_or-set_other, get_or_past, IsIn, is_empty, product_of, all_below, Sys, seat_next, is_beaten, sizes_of, count, pair_at, numbered, IsSizes, stride_of, low_of, row_sizes, env_rows_of, exact, lanes_few, AreSizes-index, low_of-le, lanes_positive, row_div, row_mod, row_below, env_rows_are, count_rows, length_rows, row_size, row_stride_of, IsSizes-rows, rows_are, is_on, AreRows, Keeps, lanes_in, low_in, lane_state_of, IsLayoutOf, IsRow, IsTargetMove, mid_in, band_in, target_move_at, AllAlive, AreRowsBefore, Layout, Row, TargetMove, on_zero, Outcomes, mul_cancel}
 use Rattle.roman_joint.proofs.AllowedLemmas.{cut_off, and_nothing}
 use Rattle.roman_joint.proofs.WordLemmas.{all_pass}
-use Rattle.roman_joint.proofs.SplitLemmas.{factor, positive_of, stride_rows, row_number, row_made}
+use Rattle.roman_joint.proofs.SplitLemmas.{positive_of, stride_rows, row_number, row_made}
 use Rattle.roman_joint.proofs.LeadLemmas.{lanes_parts, stride_positive, lane_state, lane_part, leads_before, leads_beaten}
 use Rattle.roman_joint.proofs.GoodLemmas.{Known, are_within, next_few, rows_there, alive_there, beaten_before, rows_few, suits_rows, before_there, before_beaten, moves_beaten}
 
@@ -81,44 +81,44 @@ bands_are s sizes =
     let n = sizes_of s in
     ap (λ z. z * lanes_in s) (rows_are (row_sizes n) (IsSizes-rows n sizes)) ∙ (count_rows n ∙ sym (length-below (count n)))
 
-pub bands_counted : (s : Sys) (r : Rows) → AreRowsOf (sizes_of s) r → r.rows / r.band * band_in s * lanes_in s ≡ length (numbered s).nodes
+pub bands_counted : (s : Sys) (r : Layout) → IsLayoutOf (sizes_of s) r → r.rows / r.band * band_in s * lanes_in s ≡ length (numbered s).nodes
 bands_counted s r laid =
-    let rows = factor r.rows (count (row_sizes (sizes_of s))) (lanes_in s) (lanes_positive (sizes_of s).seats laid.ok.seats) (laid.rows ∙ sym (count_rows (sizes_of s))) in
+    let rows = mul_cancel r.rows (count (row_sizes (sizes_of s))) (lanes_in s) (lanes_positive (sizes_of s).seats laid.ok.seats) (laid.rows ∙ sym (count_rows (sizes_of s))) in
     ap₂ (λ x v. x / v * band_in s * lanes_in s) rows laid.band ∙ bands_are s laid.ok
 
 -- the first row of a band has a number of 32 bits
-pub first_fits : (s : Sys) (r : Rows) (y : ℕ) → AreRowsOf (sizes_of s) r → y * band_in s * lanes_in s < length (numbered s).nodes → y * r.band < 2 ^ 32
+pub first_fits : (s : Sys) (r : Layout) (y : ℕ) → IsLayoutOf (sizes_of s) r → y * band_in s * lanes_in s < length (numbered s).nodes → y * r.band < 2 ^ 32
 first_fits s r y laid inside =
     let least = mul-le (y * band_in s) 1 (y * band_in s) (lanes_in s) (omega arith) (lanes_positive (sizes_of s).seats laid.ok.seats) in
     omega (arith, ap (λ m. y * m) laid.band, least, laid.ok.counted, length-below (count (sizes_of s)))
 
-module _ (s : Sys) (r : Rows) (y a : ℕ) (first : Row) (turn : TargetMove) (h : Known s (y * band_in s) first) (laid : AreRowsOf (sizes_of s) r) (ok : IsTargetMove s first a turn) where
+module _ (s : Sys) (r : Layout) (y a : ℕ) (first : Row) (target_move : TargetMove) (h : Known s (y * band_in s) first) (laid : IsLayoutOf (sizes_of s) r) (ok : IsTargetMove s first a target_move) where
   here : (i : ℕ) → i < band_in s → InBand s y i first
   here i l = in_band s y i first h.sizes h.looked l
 
   pub known_at : (i : ℕ) → i < band_in s → Known s (y * band_in s + i) (row_in s (y * band_in s + i) first)
   known_at i l = record { nodes = h.nodes; sys = h.sys; sizes = h.sizes; looked = (here i l).looked }
 
-  pub turned : (i : ℕ) → i < band_in s → IsTargetMove s (row_in s (y * band_in s + i) first) a (turn_at turn i)
+  pub turned : (i : ℕ) → i < band_in s → IsTargetMove s (row_in s (y * band_in s + i) first) a (target_move_at target_move i)
   turned i l = record { to = ok.to; target = ok.target; base = omega (arith, ok.base, (here i l).part); worlds = ok.worlds; some = ok.some }
 
-  -- the rows to which a turn leads from the rows of a band
-  pub band_there : (long : ℕ) → long * lanes_in s ≡ count (sizes_of s) → AreWithin turn.base r.env_rows (band_in s) long turn.envs.now
+  -- the rows to which an attempt leads from the rows of a band
+  pub band_there : (long : ℕ) → long * lanes_in s ≡ count (sizes_of s) → AreWithin target_move.base r.env_rows (band_in s) long target_move.envs.now
   band_there long room =
       let some : 0 < band_in s = first_in s h.sizes in
       let last = band_in s - 1 in
       let l : last < band_in s = omega (arith, some) in
-      let there = rows_there s r (y * band_in s + last) a long (row_in s (y * band_in s + last) first) (turn_at turn last) (known_at last l) laid (turned last l) room in
-      are_within turn.base r.env_rows (band_in s) long turn.envs.now there.few (λ e i. omega (arith, some, there.there e i))
+      let there = rows_there s r (y * band_in s + last) a long (row_in s (y * band_in s + last) first) (target_move_at target_move last) (known_at last l) laid (turned last l) room in
+      are_within target_move.base r.env_rows (band_in s) long target_move.envs.now there.few (λ e i. omega (arith, some, there.there e i))
 
   pub alive_at : (alive words : List ℕ) (gone : ℕ → Bool) → length words * lanes_in s ≡ count (sizes_of s) → AreRows (lanes_in s) (λ q. not (gone q)) words →
-      ((i lane : ℕ) → i < band_in s → lane < lanes_in s → is_on (slice_index alive i) lane ≡ not (list_any (λ e. not (is_on (slice_index words (turn.base + i + e * r.env_rows)) lane)) turn.envs.now)) → AllAlive s gone turn alive
+      ((i lane : ℕ) → i < band_in s → lane < lanes_in s → is_on (slice_index alive i) lane ≡ not (list_any (λ e. not (is_on (slice_index words (target_move.base + i + e * r.env_rows)) lane)) target_move.envs.now)) → AllAlive s gone target_move alive
   alive_at alive words gone room rows told = record {
-    each = λ i l. alive_there s r (y * band_in s + i) a (slice_index alive i) (row_in s (y * band_in s + i) first) (turn_at turn i) words gone (known_at i l) laid (turned i l) room rows (λ lane m. told i lane l m);
+    each = λ i l. alive_there s r (y * band_in s + i) a (slice_index alive i) (row_in s (y * band_in s + i) first) (target_move_at target_move i) words gone (known_at i l) laid (turned i l) room rows (λ lane m. told i lane l m);
   }
 
   -- the rows to which a seat before the band's own leads from row i
-  pub band_before : (i k : ℕ) (to : Outcomes) → i < band_in s → k < mid_in s → AreRowsBefore s first turn a k to → AreRowsBefore s (row_in s (y * band_in s + i) first) (turn_at turn i) a k (record to { base = to.base + i })
+  pub band_before : (i k : ℕ) (to : Outcomes) → i < band_in s → k < mid_in s → AreRowsBefore s first target_move a k to → AreRowsBefore s (row_in s (y * band_in s + i) first) (target_move_at target_move i) a k (record to { base = to.base + i })
   band_before i k to l before of =
       let same = (here i l).before k before in
       record {
@@ -130,7 +130,7 @@ module _ (s : Sys) (r : Rows) (y a : ℕ) (first : Row) (turn : TargetMove) (h :
         some = of.some;
       }
 
-  pub suits_band : (k long : ℕ) (to : Outcomes) → k < mid_in s → long * lanes_in s ≡ count (sizes_of s) → AreRowsBefore s first turn a k to → SuitsRows to (band_in s) long
+  pub suits_band : (k long : ℕ) (to : Outcomes) → k < mid_in s → long * lanes_in s ≡ count (sizes_of s) → AreRowsBefore s first target_move a k to → SuitsRows to (band_in s) long
   suits_band k long to before room of =
       let some : 0 < band_in s = first_in s h.sizes in
       let last = band_in s - 1 in
@@ -139,26 +139,26 @@ module _ (s : Sys) (r : Rows) (y a : ℕ) (first : Row) (turn : TargetMove) (h :
       omega (
         arith,
         some,
-        before_there s (y * band_in s + last) a k (row_in s (y * band_in s + last) first) (turn_at turn last) (record to { base = to.base + last }) (known_at last l) (turned last l) (mid_low s k before)
+        before_there s (y * band_in s + last) a k (row_in s (y * band_in s + last) first) (target_move_at target_move last) (record to { base = to.base + last }) (known_at last l) (turned last l) (mid_low s k before)
             (band_before last k to l before of) long e b room i j,
       ))
 
-  pub band_beaten : (i k lane : ℕ) (to : Outcomes) (words : List ℕ) (gone : ℕ → Bool) → i < band_in s → k < mid_in s → length words * lanes_in s ≡ count (sizes_of s) → AreRowsBefore s first turn a k to → AreRows (lanes_in s) (λ q. not (gone q)) words → lane < lanes_in s →
+  pub band_beaten : (i k lane : ℕ) (to : Outcomes) (words : List ℕ) (gone : ℕ → Bool) → i < band_in s → k < mid_in s → length words * lanes_in s ≡ count (sizes_of s) → AreRowsBefore s first target_move a k to → AreRows (lanes_in s) (λ q. not (gone q)) words → lane < lanes_in s →
       list_any (λ e. list_any (λ b. not (is_on (slice_index words (to.base + i + e * to.env_stride + b * to.stride)) lane)) to.states.now) to.envs.now ≡ is_beaten (numbered s) gone ((y * band_in s + i) * lanes_in s + lane) a k
   band_beaten i k lane to words gone l before room of rows m =
-      before_beaten s (y * band_in s + i) a k (row_in s (y * band_in s + i) first) (turn_at turn i) (record to { base = to.base + i }) (known_at i l) (turned i l) (mid_low s k before) (band_before i k to l before of)
+      before_beaten s (y * band_in s + i) a k (row_in s (y * band_in s + i) first) (target_move_at target_move i) (record to { base = to.base + i }) (known_at i l) (turned i l) (mid_low s k before) (band_before i k to l before of)
       lane words gone room rows m
 
   pub beaten_band : (i k lane : ℕ) (gone : ℕ → Bool) → i < band_in s → k < mid_in s → seat_next (slice_get s.seats k) (slice_index first.states k) first.env a ≡ [] → lane < lanes_in s →
       is_beaten (numbered s) gone ((y * band_in s + i) * lanes_in s + lane) a k ≡ true
   beaten_band i k lane gone l before none m =
-      beaten_before s r (y * band_in s + i) a k lane (row_in s (y * band_in s + i) first) (turn_at turn i) gone (known_at i l) laid (turned i l) (mid_low s k before)
+      beaten_before s r (y * band_in s + i) a k lane (row_in s (y * band_in s + i) first) (target_move_at target_move i) gone (known_at i l) laid (turned i l) (mid_low s k before)
       (ap (λ b. seat_next (slice_get s.seats k) b first.env a) ((here i l).before k before) ∙ none) m
 
-  pub beaten_moving : (i k some lane : ℕ) (moves : List Move) (alive : List ℕ) (gone : ℕ → Bool) → i < band_in s → low_in s ≤ k → k < length s.seats → AreLaneMoves (sizes_of s) k (λ b. seat_next (slice_get s.seats k) b first.env a) some moves → AllAlive s gone turn alive → lane < lanes_in s →
+  pub beaten_moving : (i k some lane : ℕ) (moves : List Move) (alive : List ℕ) (gone : ℕ → Bool) → i < band_in s → low_in s ≤ k → k < length s.seats → AreLaneMoves (sizes_of s) k (λ b. seat_next (slice_get s.seats k) b first.env a) some moves → AllAlive s gone target_move alive → lane < lanes_in s →
       not (is_on some lane && not (list_any (λ move. is_on move.lanes lane && not (is_on (slice_index alive i) (lane + move.to - move.from))) moves)) ≡ is_beaten (numbered s) gone ((y * band_in s + i) * lanes_in s + lane) a k
   beaten_moving i k some lane moves alive gone l within seat are living m =
-      moves_beaten s (y * band_in s + i) a k (slice_index alive i) (row_in s (y * band_in s + i) first) (turn_at turn i) gone (known_at i l) (turned i l) within seat (living.each i l) some moves are lane m
+      moves_beaten s (y * band_in s + i) a k (slice_index alive i) (row_in s (y * band_in s + i) first) (target_move_at target_move i) gone (known_at i l) (turned i l) within seat (living.each i l) some moves are lane m
 
 -- one more row is judged
 pub keeps_more : (s : Sys) (x i good word : ℕ) (test : ℕ → Bool) (old now : List ℕ) → i < length now → Keeps (lanes_in s) x i test old now →
@@ -175,7 +175,7 @@ keeps_all s x many test now all = record {
 }
 
 -- facts about a seat before the lanes, counted in rows
-pub record OwnSeat (s : Sys) (r : Rows) (k : ℕ) : Type 0 where
+pub record OwnSeat (s : Sys) (r : Layout) (k : ℕ) : Type 0 where
   pub stride : slice_index r.strides k ≡ stride_of (row_sizes (sizes_of s)) k
   pub size : slice_index r.sizes k ≡ slice_index (row_sizes (sizes_of s)).seats k
   pub same : slice_index (row_sizes (sizes_of s)).seats k ≡ slice_index (sizes_of s).seats k
@@ -183,7 +183,7 @@ pub record OwnSeat (s : Sys) (r : Rows) (k : ℕ) : Type 0 where
   pub size_some : 0 < slice_index r.sizes k
   pub byte : slice_index r.sizes k ≤ 2 ^ 8
 
-pub own_seat : (s : Sys) (r : Rows) (k : ℕ) → AreRowsOf (sizes_of s) r → k < low_in s → OwnSeat s r k
+pub own_seat : (s : Sys) (r : Layout) (k : ℕ) → IsLayoutOf (sizes_of s) r → k < low_in s → OwnSeat s r k
 own_seat s r k laid low =
     let sizes = laid.ok in
     let n = sizes_of s in
@@ -191,7 +191,7 @@ own_seat s r k laid low =
     let msizes = IsSizes-rows n sizes in
     let seat : k < length n.seats = omega (arith, low, low_of-le n.seats) in
     let stride : slice_index r.strides k ≡ stride_of m k =
-    factor (slice_index r.strides k) (stride_of m k) (lanes_in s) (lanes_positive n.seats sizes.seats) (laid.before k low ∙ sym (row_stride_of n k low)) in
+    mul_cancel (slice_index r.strides k) (stride_of m k) (lanes_in s) (lanes_positive n.seats sizes.seats) (laid.before k low ∙ sym (row_stride_of n k low)) in
     let same : slice_index m.seats k ≡ slice_index n.seats k = row_size n k low in
     let size : slice_index r.sizes k ≡ slice_index m.seats k = laid.sizes k seat ∙ sym same in
     record {
@@ -204,7 +204,7 @@ own_seat s r k laid low =
     }
 
 -- facts about one of a band's own seats: the band consists of blocks of all its states, and it moves within the band
-pub record OwnRows (s : Sys) (r : Rows) (k : ℕ) : Type 0 where
+pub record OwnRows (s : Sys) (r : Layout) (k : ℕ) : Type 0 where
   pub seat : OwnSeat s r k
   pub some : 0 < slice_index r.sizes k * slice_index r.strides k
   pub few : slice_index r.sizes k * slice_index r.strides k ≤ 64
@@ -214,7 +214,7 @@ pub record OwnRows (s : Sys) (r : Rows) (k : ℕ) : Type 0 where
   pub taken : (i : ℕ) → i < band_in s → lane_state_of (row_sizes (sizes_of s)) k i * slice_index r.strides k ≤ i
   pub moves : (i b : ℕ) → i < band_in s → b < slice_index (sizes_of s).seats k → i + b * slice_index r.strides k - lane_state_of (row_sizes (sizes_of s)) k i * slice_index r.strides k < band_in s
 
-pub own_rows : (s : Sys) (r : Rows) (k : ℕ) → AreRowsOf (sizes_of s) r → mid_in s ≤ k → k < low_in s → OwnRows s r k
+pub own_rows : (s : Sys) (r : Layout) (k : ℕ) → IsLayoutOf (sizes_of s) r → mid_in s ≤ k → k < low_in s → OwnRows s r k
 own_rows s r k laid within low =
     let sizes = laid.ok in
     let m = row_sizes (sizes_of s) in
@@ -240,10 +240,10 @@ own_rows s r k laid within low =
       moves = λ i b l less. rw own.stride ((lane_state m k i msizes within seats l).moves b (omega (arith, less, own.same)));
     }
 
-module _ (s : Sys) (r : Rows) (y a : ℕ) (first : Row) (turn : TargetMove) (h : Known s (y * band_in s) first) (laid : AreRowsOf (sizes_of s) r) (ok : IsTargetMove s first a turn) where
+module _ (s : Sys) (r : Layout) (y a : ℕ) (first : Row) (target_move : TargetMove) (h : Known s (y * band_in s) first) (laid : IsLayoutOf (sizes_of s) r) (ok : IsTargetMove s first a target_move) where
   -- one of a band's own seats
   pub beaten_own : (i k part lane : ℕ) (states alive : List ℕ) (gone : ℕ → Bool) → i < band_in s → mid_in s ≤ k → k < low_in s → lane_state_of (row_sizes (sizes_of s)) k i ≡ part →
-      states ≡ seat_next (slice_get s.seats k) part first.env a → AllAlive s gone turn alive → lane < lanes_in s →
+      states ≡ seat_next (slice_get s.seats k) part first.env a → AllAlive s gone target_move alive → lane < lanes_in s →
       (is_empty states || list_any (λ b. not (is_on (slice_index alive (i - part * slice_index r.strides k + b * slice_index r.strides k)) lane)) states) ≡ is_beaten (numbered s) gone ((y * band_in s + i) * lanes_in s + lane) a k
   unfolding turned
   beaten_own i k part lane states alive gone l within low is_part is_states living m =
@@ -253,19 +253,19 @@ module _ (s : Sys) (r : Rows) (y a : ℕ) (first : Row) (turn : TargetMove) (h :
       let R = env_rows_of n in
       let x = y * band_in s + i in
       let row = row_in s x first in
-      let there = turned s r y a first turn h laid ok i l in
+      let there = turned s r y a first target_move h laid ok i l in
       let own = own_rows s r k laid within low in
       let is : part ≡ slice_index row.states k = sym ((in_band s y i first h.sizes h.looked l).within k within low ∙ is_part) in
       let taken : part * u ≤ i = rw is_part at (own.taken i l) in
-      let base = turn.base + i - part * u in
+      let base = target_move.base + i - part * u in
       let to = λ (lane e b : ℕ). (base + e * R + b * u) * w + lane in
-      let leads = leads_before s row x lane a k ok.to base u turn.envs.now states h.sys (known_at s r y a first turn h laid ok i l).looked m low (laid.before k low) ok.target ok.worlds
+      let leads = leads_before s row x lane a k ok.to base u target_move.envs.now states h.sys (known_at s r y a first target_move h laid ok i l).looked m low (laid.before k low) ok.target ok.worlds
       (is_states ∙ ap (λ b. seat_next (slice_get s.seats k) b first.env a) is) (ap₂ (λ m d. m - d * u) there.base is) in
-      leads_beaten (numbered s) gone (x * w + lane) a k turn.envs.now states (to lane) (λ b. not (is_on (slice_index alive (i - part * u + b * u)) lane)) leads ok.some (λ b j.
+      leads_beaten (numbered s) gone (x * w + lane) a k target_move.envs.now states (to lane) (λ b. not (is_on (slice_index alive (i - part * u + b * u)) lane)) leads ok.some (λ b j.
       let inside : i - part * u + b * u < band_in s = omega (arith, taken, rw is_part at (own.moves i b l (next_few s k part first.env a b h.sys (subst (λ bs. IsIn b bs) is_states j)))) in
-      ap not ((living.each (i - part * u + b * u) inside).each lane m) ∙ (not-not (list_any (λ e. gone ((turn.base + (i - part * u + b * u) + e * R) * w + lane)) turn.envs.now)
-      ∙ any_same (λ e. gone ((turn.base + (i - part * u + b * u) + e * R) * w + lane)) (λ e. gone (to lane e b)) turn.envs.now
-      (λ e v. let place : turn.base + (i - part * u + b * u) + e * R ≡ base + e * R + b * u = omega (arith, taken) in ap (λ z. gone (z * w + lane)) place)))
+      ap not ((living.each (i - part * u + b * u) inside).each lane m) ∙ (not-not (list_any (λ e. gone ((target_move.base + (i - part * u + b * u) + e * R) * w + lane)) target_move.envs.now)
+      ∙ any_same (λ e. gone ((target_move.base + (i - part * u + b * u) + e * R) * w + lane)) (λ e. gone (to lane e b)) target_move.envs.now
+      (λ e v. let place : target_move.base + (i - part * u + b * u) + e * R ≡ base + e * R + b * u = omega (arith, taken) in ap (λ z. gone (z * w + lane)) place)))
 
 -- a test can be replaced by one that agrees at the pairs
 pub keeps_same : (s : Sys) (x many : ℕ) (p q : ℕ → Bool) (old new : List ℕ) → ((i lane : ℕ) → i < many → lane < lanes_in s → p ((x + i) * lanes_in s + lane) ≡ q ((x + i) * lanes_in s + lane)) → Keeps (lanes_in s) x many p old new → Keeps (lanes_in s) x many q old new

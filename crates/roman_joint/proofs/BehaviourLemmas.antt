@@ -1,8 +1,7 @@
 -- Facts about the behaviour of a service.
-use Rattle.roman_joint.proofs.Common.{◌≡◌, ℕ, zero, suc, ◌<◌, List, [], ◌∷◌, Some, length, slice_get, get_or, sym, ap, ◌∙◌, subst, arith, option_map, slice_get-map, slice_get_within, get_or_from_slice_get, slice_get-get_or, length-map, NamedBeh, NamedSys, IsNamedSys, IsOverEnv, system_of, seat_of, beh_at, Beh, IsSeatBehaviour, IsServiceAt, All-get_or}
+use Rattle.roman_joint.proofs.Common.{◌≡◌, ℕ, zero, suc, ◌<◌, List, [], ◌∷◌, Some, length, slice_get, get_or, sym, ap, ◌∙◌, subst, arith, option_map, slice_get-map, slice_get_within, get_or_from_slice_get, slice_get-get_or, length-map, NamedBeh, NamedSys, IsNamedSys, IsOverEnv, system_of, seat_of, beh_at, Beh, IsSeatBehaviour, IsServiceAt, All-get_or, map, seat_names, names_in, names_of_seat, beh_states, SeatNames, size_at}
 use Rattle.roman_model.specs.System as model
 use Rattle.roman_joint.specs.declared.seat.Seat.{Seat}
-use Rattle.roman_joint.proofs.Rows.{size_of_seat}
 
 -- the behaviour that is read at a place of the catalogue
 pub beh_read : (catalogue : List NamedBeh) (i : ℕ) (beh : NamedBeh) → slice_get catalogue i ≡ Some beh → beh_at catalogue i ≡ beh.beh
@@ -60,7 +59,14 @@ service_read n k x catalogue y known at_place same in_catalogue =
     record {
       beh = sym read;
       seated = seated;
-      size = size_of_seat (system_of n).seats k (seat_of n.catalogue x) seated ∙ ap (λ (b : Beh). b.states) read;
+      size = size_at (system_of n).seats k (seat_of n.catalogue x) seated ∙ ap (λ (b : Beh). b.states) read;
       env_states = of.env_states;
       actions = of.actions;
     }
+
+-- the names of a service's states are those of its behaviour's states
+pub states_named : (n : NamedSys) (k : ℕ) (beh : NamedBeh) → IsSeatBehaviour n k beh → (seat_names (names_in n) k).states ≡ beh.states
+states_named n k beh of =
+    ap (λ (x : SeatNames). x.states) (get_or_from_slice_get (names_in n).seats k (names_of_seat n.catalogue of.seat) (record { service = []; states = [] })
+    (slice_get-map (names_of_seat n.catalogue) n.seats k ∙ ap (option_map (names_of_seat n.catalogue)) of.seated))
+    ∙ get_or_from_slice_get (map beh_states n.catalogue) of.seat.behaviour beh.states [] (slice_get-map beh_states n.catalogue of.seat.behaviour ∙ ap (option_map beh_states) of.placed)

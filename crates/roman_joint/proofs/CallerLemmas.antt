@@ -1,7 +1,7 @@
 -- What the proofs of other crates may cite of this one. All else in proofs/ can be renamed freely.
 
 -- Searches for the first element that passes, step by step.
-pub use Rattle.roman_joint.proofs.Finds.{if_some}
+pub use Rattle.roman_joint.proofs.Finds.{if_some, no_numbers}
 -- Services and their behaviours, read one after another.
 pub use Rattle.roman_joint.proofs.SeatLemmas.{seat_beh_read, states_range}
 -- The system after a service is frozen, dropped or added.
@@ -13,4 +13,4 @@ pub use Rattle.roman_joint.proofs.WordLemmas.{on_below, on_shl}
 -- The sizes of services.
 pub use Rattle.roman_joint.proofs.GoodLemmas.{in_sizes}
 -- Facts about the behaviour of a service.
-pub use Rattle.roman_joint.proofs.BehaviourLemmas.{Behaves, beh_read, behaves, seat_read, seat_within}
+pub use Rattle.roman_joint.proofs.BehaviourLemmas.{Behaves, beh_read, behaves, seat_read, seat_within, states_named}

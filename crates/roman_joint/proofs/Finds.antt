@@ -1,5 +1,5 @@
 -- Searches for the first element that passes, step by step.
-use Rattle.roman_joint.proofs.Common.{All, ◌≡◌, ℕ, zero, suc, ◌+◌, ◌<◌, ◌≤◌, ◌==◌, Bool, true, false, cond, List, [], ◌∷◌, map, length, drop, get_or, Option, Some, IsFalse, refl, sym, ap, ◌∙◌, subst, inl, inr, arith, find, flat_map, option_map, option_or, IsIn, is_empty, in_map, in_flat_map, in_not_empty, drop_more, nil_from_length, false≢true, eqb-true, find-append}
+use Rattle.roman_joint.proofs.Common.{All, ◌≡◌, ℕ, ◌+◌, ◌<◌, ◌≤◌, ◌==◌, Bool, true, false, cond, List, [], ◌∷◌, map, length, drop, get_or, Option, Some, IsFalse, refl, sym, ap, ◌∙◌, subst, inl, arith, find, flat_map, option_map, option_or, IsIn, is_empty, in_map, in_flat_map, in_not_empty, drop_more, nil_from_length, false≢true, eqb-true, find-append, in_at}
 use Rattle.std.specs.Option.{IfSome}
 
 -- a search goes on from an element to the next
@@ -15,12 +15,6 @@ pub find_in_next : {X Y : Type 0} (f : X → List Y) (p : Y → Bool) (xs : List
     find p (flat_map f (drop i xs)) ≡ option_or o (find p (flat_map f (drop (i + 1) xs)))
 find_in_next f p xs i d o l h =
     ap (λ ys. find p (flat_map f ys)) (drop_more xs i d l) ∙ (find-append p (f (get_or xs i d)) (flat_map f (drop (i + 1) xs)) ∙ ap (λ o. option_or o (find p (flat_map f (drop (i + 1) xs)))) h)
-
--- the element at a place is in the list
-pub in_at : {X : Type 0} (xs : List X) (i : ℕ) (d : X) → i < length xs → IsIn (get_or xs i d) xs
-in_at [] i d l = absurd (omega arith)
-in_at (x ∷ xs) zero d l = inl refl
-in_at (x ∷ xs) (suc i) d l = inr (in_at xs i d (omega arith))
 
 -- what holds of the elements of two lists holds at their places
 pub all_pairs : (P : ℕ → ℕ → Type 0) (xs ys : List ℕ) → ((x y : ℕ) → IsIn x xs → IsIn y ys → P x y) → All (λ x. All (P x) ys) xs

@@ -1,11 +1,9 @@
 -- The pairs of a row at which a seat serves an action.
-use Rattle.roman_joint.proofs.Common.{not-not, and-false, or-false, IsSizes-rows, product_positive, low_of-le, lanes_few, lanes_positive, row_least, row_below, env_rows_are, row_sizes, low_of, lanes_of, env_rows_of, target_rows_of, AreWithin, SuitsRows, outcome_number, Move, AreLaneMoves, same_test, length-below, any_same, not_empty_in, triple_in_range, from_env_next, move_in_range, from_seat_next, seat_in, cases_lt, ne_eqb, eqb-true, lt-ltb, le-ltb, eq-eqb, cases_eq, ◌∷◌, ◌≡◌, ◌⊎◌, ℕ, ◌+◌, ◌-◌, ◌*◌, ◌/◌, ◌%◌, ◌<◌, ◌≤◌, ◌^◌, Bool, true, false, not, ◌&&◌, ◌||◌, eqb, ltb, inl, inr, List, [], length, get_or, slice_get, slice_index, IsFalse, refl, sym, ap, ap₂, ◌∙◌, subst, arith, cond, list_any, length-map, get_or-set_other, get_or-set_same, length-set, mul-add-lt, mul-le, mod_below, div_below, div-add-mod', nat_tests, IsIn, is_empty, Sys, Seat, IsSys, seat_next, is_beaten, Sizes, sizes_of, count, numbered, IsSizes, stride_of, is_on, HasLanes, AreRows, IsNumbered, NamedSys, system_of, seat_of, IsNamedSys, lanes_in, low_in, lane_has_state, lane_state_of, AreRowsOf, IsRow, IsTargetMove, AreAlive, Rows, Row, TargetMove, on_and, on_zero, mul-add-div_right, add-mod-mod, mod-eq_of_lt, mul-mod_left, AreRowsBefore, Outcomes}
+use Rattle.roman_joint.proofs.Common.{not-not, and-false, or-false, IsSizes-rows, product_positive, low_of-le, lanes_few, lanes_positive, row_least, row_below, env_rows_are, row_sizes, low_of, lanes_of, env_rows_of, target_rows_of, AreWithin, SuitsRows, outcome_number, Move, AreLaneMoves, same_test, length-below, any_same, not_empty_in, triple_in_range, from_env_next, move_in_range, from_seat_next, get_in, cases_lt, ne_eqb, eqb-true, lt-ltb, le-ltb, eq-eqb, cases_eq, ◌∷◌, ◌≡◌, ◌⊎◌, ℕ, ◌+◌, ◌-◌, ◌*◌, ◌/◌, ◌%◌, ◌<◌, ◌≤◌, ◌^◌, Bool, true, false, not, ◌&&◌, ◌||◌, eqb, ltb, inl, inr, List, [], length, get_or, slice_get, slice_index, IsFalse, refl, sym, ap, ap₂, ◌∙◌, subst, arith, cond, list_any, length-map, get_or-set_other, get_or-set_same, length-set, mul-add-lt, mul-le, mod_below, div_below, div-add-mod', nat_tests, IsIn, is_empty, Sys, Seat, IsSys, seat_next, is_beaten, Sizes, sizes_of, count, numbered, IsSizes, stride_of, is_on, HasLanes, AreRows, IsNumbered, NamedSys, system_of, seat_of, IsNamedSys, lanes_in, low_in, lane_has_state, lane_state_of, IsLayoutOf, IsRow, IsTargetMove, AreAlive, Layout, Row, TargetMove, on_and, on_zero, mul-add-div_right, add-mod-mod, mod-eq_of_lt, mul-mod_left, AreRowsBefore, Outcomes, in_at, mul_cancel, size_at}
 use Rattle.roman_joint.proofs.ArenaFacts.{joint_numbered}
 use Rattle.roman_joint.proofs.OutcomeLemmas.{target_in_range}
-use Rattle.roman_joint.proofs.Finds.{in_at}
-use Rattle.roman_joint.proofs.Rows.{size_of_seat}
 use Rattle.roman_joint.proofs.WordLemmas.{on_shl, on_below}
-use Rattle.roman_joint.proofs.SplitLemmas.{joint_sizes, factor}
+use Rattle.roman_joint.proofs.SplitLemmas.{joint_sizes}
 use Rattle.roman_joint.proofs.LeadLemmas.{Leads, leads_within, leads_served, leads_beaten, leads_nothing, start_before, leads_before, lane_state, leads_lanes}
 
 -- Facts about a row.
@@ -31,7 +29,7 @@ rows_whole s =
     omega arith ∙ whole
 
 pub rows_all : (s : Sys) (long : ℕ) → IsSizes (sizes_of s) → long * lanes_in s ≡ count (sizes_of s) → long ≡ s.target.states * s.env.states * env_rows_of (sizes_of s)
-rows_all s long sizes room = factor long (s.target.states * s.env.states * env_rows_of (sizes_of s)) (lanes_in s) (width_positive s sizes) (room ∙ sym (rows_whole s))
+rows_all s long sizes room = mul_cancel long (s.target.states * s.env.states * env_rows_of (sizes_of s)) (lanes_in s) (width_positive s sizes) (room ∙ sym (rows_whole s))
 
 -- a row at other states of the target and the environment is in range
 pub row_there : (target env r to e part : ℕ) → to < target → e < env → part < r → to * (env * r) + part + e * r < target * env * r
@@ -43,10 +41,10 @@ part_below s x row sizes ok = subst (λ m. m < env_rows_of (sizes_of s)) (sym ok
 pub rows_few : (s : Sys) (long : ℕ) → IsSizes (sizes_of s) → long * lanes_in s ≡ count (sizes_of s) → long < 2 ^ 32
 rows_few s long sizes room = grind (arith, mul-le, width_positive)
 
--- the first row of a turn has a number of 32 bits
-pub turn_fits : (n : NamedSys) (r : Rows) (x : ℕ) (row : Row) (to : ℕ) → IsNamedSys n → AreRowsOf (sizes_of (system_of n)) r → IsRow (system_of n) x row → to < (system_of n).target.states →
+-- the first row of an attempt has a number of 32 bits
+pub target_move_fits : (n : NamedSys) (r : Layout) (x : ℕ) (row : Row) (to : ℕ) → IsNamedSys n → IsLayoutOf (sizes_of (system_of n)) r → IsRow (system_of n) x row → to < (system_of n).target.states →
     (to * r.target_rows < 2 ^ 32) × (to * r.target_rows + row.part < 2 ^ 32)
-turn_fits n r x row to ok laid looked in_target =
+target_move_fits n r x row to ok laid looked in_target =
     let s = system_of n in
     let sizes = joint_sizes n ok in
     let there = row_there s.target.states s.env.states (env_rows_of (sizes_of s)) to 0 row.part in_target ok.system.env.states.0 (part_below s x row sizes looked) in
@@ -54,14 +52,14 @@ turn_fits n r x row to ok laid looked in_target =
     let base : to * r.target_rows ≡ to * (s.env.states * env_rows_of (sizes_of s)) = ap (λ m. to * m) laid.target in
     (omega (arith, there, few, base), omega (arith, there, few, base))
 
--- the rows of a turn
-pub record RowsThere (r : Rows) (turn : TargetMove) (long : ℕ) : Type 0 where
-  pub inside : turn.base < long
-  pub there : (e : ℕ) → IsIn e turn.envs.now → turn.base + e * r.env_rows < long
+-- the rows of an attempt
+pub record RowsThere (r : Layout) (target_move : TargetMove) (long : ℕ) : Type 0 where
+  pub inside : target_move.base < long
+  pub there : (e : ℕ) → IsIn e target_move.envs.now → target_move.base + e * r.env_rows < long
   pub few : long < 2 ^ 32
 
-pub rows_there : (s : Sys) (r : Rows) (x a long : ℕ) (row : Row) (turn : TargetMove) → Known s x row → AreRowsOf (sizes_of s) r → IsTargetMove s row a turn → long * lanes_in s ≡ count (sizes_of s) → RowsThere r turn long
-rows_there s r x a long row turn h laid ok room =
+pub rows_there : (s : Sys) (r : Layout) (x a long : ℕ) (row : Row) (target_move : TargetMove) → Known s x row → IsLayoutOf (sizes_of s) r → IsTargetMove s row a target_move → long * lanes_in s ≡ count (sizes_of s) → RowsThere r target_move long
+rows_there s r x a long row target_move h laid ok room =
     let n = sizes_of s in
     let in_target : ok.to < s.target.states = target_in_range s row.target row.env a ok.to h.sys ok.target in
     let all = rows_all s long h.sizes room in
@@ -82,16 +80,16 @@ rows_there s r x a long row turn h laid ok room =
 pub are_within : (base stride many long : ℕ) (states : List ℕ) → long < 2 ^ 32 → ((b : ℕ) → IsIn b states → base + b * stride + many ≤ long) → AreWithin base stride many long states
 are_within base stride many long states few there = record { fits = λ i d l. omega (arith, there _ (in_at states i d l)); within = λ i d l. there _ (in_at states i d l) }
 
-pub full_on : (n : Sizes) (r : Rows) (lane : ℕ) → AreRowsOf n r → lane < lanes_of n.seats → is_on r.full lane ≡ true
+pub full_on : (n : Sizes) (r : Layout) (lane : ℕ) → IsLayoutOf n r → lane < lanes_of n.seats → is_on r.full lane ≡ true
 full_on n r lane laid l = laid.full lane ∙ lt-ltb lane (lanes_of n.seats) l
 
-pub full_off : (n : Sizes) (r : Rows) (lane : ℕ) → AreRowsOf n r → lanes_of n.seats ≤ lane → is_on r.full lane ≡ false
+pub full_off : (n : Sizes) (r : Layout) (lane : ℕ) → IsLayoutOf n r → lanes_of n.seats ≤ lane → is_on r.full lane ≡ false
 full_off n r lane laid l = laid.full lane ∙ le-ltb lane (lanes_of n.seats) l
 
--- what a seat's own state adds to the number of a turn's first row
-pub taken_before : (s : Sys) (r : Rows) (x a k : ℕ) (row : Row) (turn : TargetMove) → Known s x row → AreRowsOf (sizes_of s) r → IsTargetMove s row a turn → k < low_in s →
-    slice_index row.states k * slice_index r.strides k ≤ turn.base
-taken_before s r x a k row turn h laid ok before =
+-- what a seat's own state adds to the number of an attempt's first row
+pub taken_before : (s : Sys) (r : Layout) (x a k : ℕ) (row : Row) (target_move : TargetMove) → Known s x row → IsLayoutOf (sizes_of s) r → IsTargetMove s row a target_move → k < low_in s →
+    slice_index row.states k * slice_index r.strides k ≤ target_move.base
+taken_before s r x a k row target_move h laid ok before =
     let n = sizes_of s in
     let w = lanes_in s in
     let u = slice_index r.strides k in
@@ -105,9 +103,9 @@ taken_before s r x a k row turn h laid ok before =
     omega (arith, taken, ok.base)
 
 -- where a seat before the lanes has no next state, it serves at no pair
-pub beaten_before : (s : Sys) (r : Rows) (x a k lane : ℕ) (row : Row) (turn : TargetMove) (gone : ℕ → Bool) → Known s x row → AreRowsOf (sizes_of s) r → IsTargetMove s row a turn → k < low_in s →
+pub beaten_before : (s : Sys) (r : Layout) (x a k lane : ℕ) (row : Row) (target_move : TargetMove) (gone : ℕ → Bool) → Known s x row → IsLayoutOf (sizes_of s) r → IsTargetMove s row a target_move → k < low_in s →
     seat_next (slice_get s.seats k) (slice_index row.states k) row.env a ≡ [] → lane < lanes_in s → is_beaten (numbered s) gone (x * lanes_in s + lane) a k ≡ true
-beaten_before s r x a k lane row turn gone h laid ok before none l =
+beaten_before s r x a k lane row target_move gone h laid ok before none l =
     leads_nothing _ _ _ _ _ _ _ _ (leads_before _ _ _ _ _ _ _ _ _ _ _ h.sys h.looked l before (laid.before k before) ok.target ok.worlds refl refl) none
 
 -- a word without lanes, where no pair is served
@@ -124,7 +122,7 @@ suits_rows rows many long pos few some there = record {
 }
 
 -- the rows to which a seat before the lanes leads from a row
-module _ (s : Sys) (x a k : ℕ) (row : Row) (turn : TargetMove) (to : Outcomes) (h : Known s x row) (ok : IsTargetMove s row a turn) (before : k < low_in s) (of : AreRowsBefore s row turn a k to) where
+module _ (s : Sys) (x a k : ℕ) (row : Row) (target_move : TargetMove) (to : Outcomes) (h : Known s x row) (ok : IsTargetMove s row a target_move) (before : k < low_in s) (of : AreRowsBefore s row target_move a k to) where
   before_leads : (lane : ℕ) → lane < lanes_in s → Leads (numbered s) (x * lanes_in s + lane) a k to.envs.now to.states.now (λ e b. outcome_number to e b * lanes_in s + lane)
   before_leads lane l =
       subst (λ m. Leads (numbered s) (x * lanes_in s + lane) a k to.envs.now to.states.now (λ e b. (to.base + e * m + b * to.stride) * lanes_in s + lane)) (sym of.env_stride)
@@ -149,20 +147,20 @@ module _ (s : Sys) (x a k : ℕ) (row : Row) (turn : TargetMove) (to : Outcomes)
       (λ e b. not (is_on (slice_index words (outcome_number to e b)) lane)) (before_leads lane l) (rw of.worlds ok.some) of.some
       (λ e b i j. ap not ((rows.each (outcome_number to e b) (before_there (length words) e b room i j)).each lane l) ∙ not-not (gone (outcome_number to e b * lanes_in s + lane)))
 
--- the alive lanes of a turn
-pub alive_there : (s : Sys) (r : Rows) (x a alive : ℕ) (row : Row) (turn : TargetMove) (words : List ℕ) (gone : ℕ → Bool) → Known s x row → AreRowsOf (sizes_of s) r → IsTargetMove s row a turn → length words * lanes_in s ≡ count (sizes_of s) →
+-- the alive lanes of an attempt
+pub alive_there : (s : Sys) (r : Layout) (x a alive : ℕ) (row : Row) (target_move : TargetMove) (words : List ℕ) (gone : ℕ → Bool) → Known s x row → IsLayoutOf (sizes_of s) r → IsTargetMove s row a target_move → length words * lanes_in s ≡ count (sizes_of s) →
     AreRows (lanes_in s) (λ q. not (gone q)) words →
-    ((lane : ℕ) → lane < lanes_in s → is_on alive lane ≡ not (list_any (λ e. not (is_on (slice_index words (turn.base + e * r.env_rows)) lane)) turn.envs.now)) → AreAlive s gone turn alive
-alive_there s r x a alive row turn words gone h laid ok room rows told = record {
+    ((lane : ℕ) → lane < lanes_in s → is_on alive lane ≡ not (list_any (λ e. not (is_on (slice_index words (target_move.base + e * r.env_rows)) lane)) target_move.envs.now)) → AreAlive s gone target_move alive
+alive_there s r x a alive row target_move words gone h laid ok room rows told = record {
   each = λ lane l. told lane l
-      ∙ ap not (any_same (λ e. not (is_on (slice_index words (turn.base + e * r.env_rows)) lane)) (λ e. gone ((turn.base + e * env_rows_of (sizes_of s)) * lanes_in s + lane)) turn.envs.now (λ e i. same lane e l i));
+      ∙ ap not (any_same (λ e. not (is_on (slice_index words (target_move.base + e * r.env_rows)) lane)) (λ e. gone ((target_move.base + e * env_rows_of (sizes_of s)) * lanes_in s + lane)) target_move.envs.now (λ e i. same lane e l i));
 }
   where
-    same : (lane e : ℕ) → lane < lanes_in s → IsIn e turn.envs.now → not (is_on (slice_index words (turn.base + e * r.env_rows)) lane) ≡ gone ((turn.base + e * env_rows_of (sizes_of s)) * lanes_in s + lane)
+    same : (lane e : ℕ) → lane < lanes_in s → IsIn e target_move.envs.now → not (is_on (slice_index words (target_move.base + e * r.env_rows)) lane) ≡ gone ((target_move.base + e * env_rows_of (sizes_of s)) * lanes_in s + lane)
     same lane e l i =
-        let all = rows_there s r x a (length words) row turn h laid ok room in
-        let here : is_on (slice_index words (turn.base + e * r.env_rows)) lane ≡ not (gone ((turn.base + e * r.env_rows) * lanes_in s + lane)) = (rows.each (turn.base + e * r.env_rows) (all.there e i)).each lane l in
-        ap not here ∙ (not-not (gone ((turn.base + e * r.env_rows) * lanes_in s + lane)) ∙ ap (λ m. gone ((turn.base + e * m) * lanes_in s + lane)) laid.env)
+        let all = rows_there s r x a (length words) row target_move h laid ok room in
+        let here : is_on (slice_index words (target_move.base + e * r.env_rows)) lane ≡ not (gone ((target_move.base + e * r.env_rows) * lanes_in s + lane)) = (rows.each (target_move.base + e * r.env_rows) (all.there e i)).each lane l in
+        ap not here ∙ (not-not (gone ((target_move.base + e * r.env_rows) * lanes_in s + lane)) ∙ ap (λ m. gone ((target_move.base + e * m) * lanes_in s + lane)) laid.env)
 
 -- the lanes of a state begin within the word
 pub state_below : (n : Sizes) (k b : ℕ) → IsSizes n → low_of n.seats ≤ k → k < length n.seats → b < slice_index n.seats k → b * stride_of n k < 64
@@ -182,11 +180,11 @@ state_shift first b st size lane is pos l low = elim (cases_lt lane (b * st)) [
   | inr more ↦
       let rest : lane ≡ b * st + (lane - b * st) = omega arith in
       let high : lane / st ≡ b + (lane - b * st) / st = ap (λ m. m / st) rest ∙ mul-add-div_right pos b (lane - b * st) in
-      on_shl first (b * st) lane (lane - b * st) low rest ∙ (is (lane - b * st) (omega arith) ∙ (turns ((lane - b * st) / st) size b l ∙ ap (λ m. eqb (m % size) b) (sym high)))
+      on_shl first (b * st) lane (lane - b * st) low rest ∙ (is (lane - b * st) (omega arith) ∙ (columns ((lane - b * st) / st) size b l ∙ ap (λ m. eqb (m % size) b) (sym high)))
 ]
   where
-    turns : (h size b : ℕ) → b < size → eqb (h % size) 0 ≡ eqb ((b + h) % size) b
-    turns h size b l = same_test (eqb (h % size) 0) (eqb ((b + h) % size) b)
+    columns : (h size b : ℕ) → b < size → eqb (h % size) 0 ≡ eqb ((b + h) % size) b
+    columns h size b l = same_test (eqb (h % size) 0) (eqb ((b + h) % size) b)
         (λ t.
         let none : b + h % size ≡ b = omega (arith, eqb-true (h % size) 0 t) in
         let start : (b + h % size) % size ≡ b = ap (λ m. m % size) none ∙ mod-eq_of_lt l in
@@ -199,10 +197,10 @@ state_shift first b st size lane is pos l low = elim (cases_lt lane (b * st)) [
 pub next_few : (s : Sys) (k b e a c : ℕ) → IsSys s → IsIn c (seat_next (slice_get s.seats k) b e a) → c < slice_index (sizes_of s).seats k
 next_few s k b e a c sys i =
     let (y, seated, ready, moves) = from_seat_next (slice_get s.seats k) b e a c i in
-    subst (λ m. c < m) (sym (size_of_seat s.seats k y seated)) (move_in_range s.env y.beh b e a c (sys.seats y (seat_in s.seats k y seated)) moves).3
+    subst (λ m. c < m) (sym (size_at s.seats k y seated)) (move_in_range s.env y.beh b e a c (sys.seats y (get_in s.seats k y seated)) moves).3
 
 -- the pairs at which a seat within the lanes serves
-module _ (s : Sys) (x a k alive : ℕ) (row : Row) (turn : TargetMove) (gone : ℕ → Bool) (h : Known s x row) (ok : IsTargetMove s row a turn) (low : low_in s ≤ k) (seat : k < length s.seats) (living : AreAlive s gone turn alive) where
+module _ (s : Sys) (x a k alive : ℕ) (row : Row) (target_move : TargetMove) (gone : ℕ → Bool) (h : Known s x row) (ok : IsTargetMove s row a target_move) (low : low_in s ≤ k) (seat : k < length s.seats) (living : AreAlive s gone target_move alive) where
   abbrev states_at : ℕ → List ℕ
   states_at lane = seat_next (slice_get s.seats k) (lane_state_of (sizes_of s) k lane) row.env a
 
@@ -215,8 +213,8 @@ module _ (s : Sys) (x a k alive : ℕ) (row : Row) (turn : TargetMove) (gone : �
 
   beaten_within : (lane : ℕ) → lane < lanes_in s → (is_empty (states_at lane) || list_any (λ b. not (is_on alive (lane_to lane b))) (states_at lane)) ≡ is_beaten (numbered s) gone (x * lanes_in s + lane) a k
   beaten_within lane l =
-      leads_beaten (numbered s) gone (x * lanes_in s + lane) a k turn.envs.now (states_at lane) (λ e b. (turn.base + e * env_rows_of (sizes_of s)) * lanes_in s + lane_to lane b) (λ b. not (is_on alive (lane_to lane b)))
-      (leads_lanes s row x lane a k ok.to turn.base (lane_state_of (sizes_of s) k lane) turn.envs.now (states_at lane) h.sys h.sizes h.looked l low seat refl ok.target ok.worlds refl ok.base) ok.some
+      leads_beaten (numbered s) gone (x * lanes_in s + lane) a k target_move.envs.now (states_at lane) (λ e b. (target_move.base + e * env_rows_of (sizes_of s)) * lanes_in s + lane_to lane b) (λ b. not (is_on alive (lane_to lane b)))
+      (leads_lanes s row x lane a k ok.to target_move.base (lane_state_of (sizes_of s) k lane) target_move.envs.now (states_at lane) h.sys h.sizes h.looked l low seat refl ok.target ok.worlds refl ok.base) ok.some
       (λ b i. ap not (living.each (lane_to lane b) (lane_there lane b l i)) ∙ not-not _)
 
   pub moves_beaten : (some : ℕ) (moves : List Move) → AreLaneMoves (sizes_of s) k (λ b. seat_next (slice_get s.seats k) b row.env a) some moves → (lane : ℕ) → lane < lanes_in s →
@@ -234,10 +232,10 @@ any_all p [] all = refl
 any_all p (x ∷ xs) all = ap (λ b. b || list_any p xs) (all x (inl refl))
 
 -- without an alive lane, a seat within the lanes serves at no pair
-pub beaten_dead : (s : Sys) (x a k lane : ℕ) (row : Row) (turn : TargetMove) (gone : ℕ → Bool) → Known s x row → IsTargetMove s row a turn → low_in s ≤ k → k < length s.seats → AreAlive s gone turn 0 → lane < lanes_in s →
+pub beaten_dead : (s : Sys) (x a k lane : ℕ) (row : Row) (target_move : TargetMove) (gone : ℕ → Bool) → Known s x row → IsTargetMove s row a target_move → low_in s ≤ k → k < length s.seats → AreAlive s gone target_move 0 → lane < lanes_in s →
     is_beaten (numbered s) gone (x * lanes_in s + lane) a k ≡ true
-beaten_dead s x a k lane row turn gone h ok low seat living l =
-    sym (beaten_within s x a k 0 row turn gone h ok low seat living lane l) ∙ any_all _ (states_at s x a k 0 row turn gone h ok low seat living lane) (λ b i. ap not (on_zero _))
+beaten_dead s x a k lane row target_move gone h ok low seat living l =
+    sym (beaten_within s x a k 0 row target_move gone h ok low seat living lane l) ∙ any_all _ (states_at s x a k 0 row target_move gone h ok low seat living lane) (λ b i. ap not (on_zero _))
 
 -- the lanes of the states so far, with one more
 pub one_more : (m b : ℕ) (f : ℕ → Bool) → ((ltb m b && f m) || (eqb m b && f b)) ≡ (ltb m (b + 1) && f m)
@@ -269,7 +267,7 @@ in_sizes n k l = omega (arith, length-map n.seats (seat_of n.catalogue), length-
 pub ruleset seat_counts = (length-map, low_of-le)
 
 -- the first lane of a state is within the word
-pub begins : (n : Sizes) (r : Rows) (k b from : ℕ) → IsSizes n → AreRowsOf n r → low_of n.seats ≤ k → k < length n.seats → b < slice_index n.seats k → from ≡ b → from * slice_index r.strides k < 64
+pub begins : (n : Sizes) (r : Layout) (k b from : ℕ) → IsSizes n → IsLayoutOf n r → low_of n.seats ≤ k → k < length n.seats → b < slice_index n.seats k → from ≡ b → from * slice_index r.strides k < 64
 begins n r k b from sizes laid within seat state is = subst (λ m. m < 64) (sym (ap₂ (λ m u. m * u) is (laid.within k within seat))) (state_below n k b sizes within seat state)
 
 -- the bits past the lanes are off

@@ -22,18 +22,18 @@ pub leads_nothing : (A : Arena ℕ) (gone : ℕ → Bool) (p a k : ℕ) (envs st
 leads_nothing A gone p a k envs states to leads none = grind (arith, no_numbers)
 
 -- the order of two searches doesn't matter
-any_turn : (test : ℕ → ℕ → Bool) (xs ys : List ℕ) → IsTrue (list_any (λ x. list_any (test x) ys) xs) → IsTrue (list_any (λ y. list_any (λ x. test x y) xs) ys)
-any_turn test xs ys t = grind (arith, any_from, any_true)
+any_swap : (test : ℕ → ℕ → Bool) (xs ys : List ℕ) → IsTrue (list_any (λ x. list_any (test x) ys) xs) → IsTrue (list_any (λ y. list_any (λ x. test x y) xs) ys)
+any_swap test xs ys t = grind (arith, any_from, any_true)
 
-any_turned : (test : ℕ → ℕ → Bool) (xs ys : List ℕ) → list_any (λ x. list_any (test x) ys) xs ≡ list_any (λ y. list_any (λ x. test x y) xs) ys
-any_turned test xs ys = same_test _ _ (any_turn test xs ys) (any_turn (λ y x. test x y) ys xs)
+any_swapped : (test : ℕ → ℕ → Bool) (xs ys : List ℕ) → list_any (λ x. list_any (test x) ys) xs ≡ list_any (λ y. list_any (λ x. test x y) xs) ys
+any_swapped test xs ys = same_test _ _ (any_swap test xs ys) (any_swap (λ y x. test x y) ys xs)
 
 -- a seat is beaten exactly if it has no state to go to, or one that is dead: from which a next state of the environment leads to a node that is gone
 pub leads_beaten : (A : Arena ℕ) (gone : ℕ → Bool) (p a k : ℕ) (envs states : List ℕ) (to : ℕ → ℕ → ℕ) (dead : ℕ → Bool) → Leads A p a k envs states to →
     IsFalse (is_empty envs) → ((b : ℕ) → IsIn b states → dead b ≡ list_any (λ e. gone (to e b)) envs) → (is_empty states || list_any dead states) ≡ is_beaten A gone p a k
 leads_beaten A gone p a k envs [] to dead leads some_env same = sym (leads_nothing A gone p a k envs [] to leads refl)
 leads_beaten A gone p a k envs (b ∷ states) to dead leads some_env same =
-    any_same dead (λ c. list_any (λ e. gone (to e c)) envs) (b ∷ states) same ∙ any_turned (λ c e. gone (to e c)) (b ∷ states) envs
+    any_same dead (λ c. list_any (λ e. gone (to e c)) envs) (b ∷ states) same ∙ any_swapped (λ c e. gone (to e c)) (b ∷ states) envs
     ∙ leads_served A gone p a k envs (b ∷ states) to (λ e c. gone (to e c)) leads some_env refl (λ e c i j. refl)
 
 -- the first number for a seat

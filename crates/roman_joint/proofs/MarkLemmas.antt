@@ -1,8 +1,7 @@
 -- Marks on the bands from which a band can be reached.
-use Rattle.roman_joint.proofs.Common.{AnyOf, Grows, IsBeforeAction, IsBeforeEnv, IsBeforeSeat, IsMarked, Marks, action_steps, env_steps, row_at, seat_steps, turn_steps, AreLeading, Arena, Delegation, back, delegations, is_among, Bool, IsTrue, List, [], add-one, ap, ap₂, arith, cond, count_by, drop, false, get_or, inl, inr, length, refl, slice_get, slice_index, subst, suc, sum_by, sym, take, true, zero, ℕ, ◌%◌, ◌*◌, ◌++◌, ◌+◌, ◌-◌, ◌/◌, ◌<◌, ◌^◌, ◌∙◌, ◌∷◌, ◌≡◌, ◌≤◌, ◌⊎◌, HasNoRepeats, HoldsEachOnce, IsIn, below, product_of, HasNoRepeats-below, HasNoRepeats-filter, HasNoRepeats-map, by_test, filter_in, from_below, from_flat_map, from_map, from_push, in_beh_prev, in_below, in_env_prev, in_filter, move_in_range, no_longer, numbers_are_pairs, seat_in, sum_by_same, triple_in_range, IsBeh, IsSys, Pair, Seat, Sys, IsRow, lane_state_of, lanes_in, IsSizes, moved, stride_of, IsSizes-rows, env_rows_are, lanes_positive, length_rows, low_of-le, row_mod, row_stride_of, Row, Sizes, count, number, numbered, pair_at, sizes_of, band_in, mid_in, beh_prev, env_prev, outcomes, bit_at, bit_or, cases_eq, cases_lt, le-ltb, lt-ltb, div-add-mod', div-mul-add, div_below, mod_below, mul-add-lt, same_from_place, div-div-eq-div-mul, env_rows_of, lanes_of, low_of, row_sizes, filter, flat_map, from_action, from_all, from_env, from_seat, from_states, from_target, seat_prev, get_or-set_other, get_or-set_same, length-map, length-set, take_more, has_flag, is_on, length-filter, sum_by-append, sum_by-cons, set, slice_get_within, still, sum_cut}
+use Rattle.roman_joint.proofs.Common.{AnyOf, Grows, IsBeforeAction, IsBeforeEnv, IsBeforeSeat, IsMarked, Marks, action_steps, env_steps, row_at, seat_steps, target_steps, AreLeading, Arena, Delegation, back, delegations, is_among, Bool, IsTrue, List, [], add-one, ap, ap₂, arith, cond, count_by, drop, false, get_or, inl, inr, length, refl, slice_get, slice_index, subst, suc, sum_by, sym, take, true, zero, ℕ, ◌%◌, ◌*◌, ◌++◌, ◌+◌, ◌-◌, ◌/◌, ◌<◌, ◌^◌, ◌∙◌, ◌∷◌, ◌≡◌, ◌≤◌, ◌⊎◌, HasNoRepeats, HoldsEachOnce, IsIn, below, product_of, HasNoRepeats-below, HasNoRepeats-filter, HasNoRepeats-map, by_test, filter_in, from_below, from_flat_map, from_map, from_push, in_beh_prev, in_below, in_env_prev, in_filter, move_in_range, no_longer, numbers_are_pairs, get_in, sum_by_same, triple_in_range, IsBeh, IsSys, Pair, Seat, Sys, IsRow, lane_state_of, lanes_in, IsSizes, moved, stride_of, IsSizes-rows, env_rows_are, lanes_positive, length_rows, low_of-le, row_mod, row_stride_of, Row, Sizes, count, number, numbered, pair_at, sizes_of, band_in, mid_in, beh_prev, env_prev, outcomes, bit_at, bit_or, cases_eq, cases_lt, le-ltb, lt-ltb, div-add-mod', div-mul-add, div_below, mod_below, mul-add-lt, same_from_place, div-div-eq-div-mul, env_rows_of, lanes_of, low_of, row_sizes, filter, flat_map, from_action, from_all, from_env, from_seat, from_states, from_target, seat_prev, get_or-set_other, get_or-set_same, length-map, length-set, take_more, has_flag, is_on, length-filter, sum_by-append, sum_by-cons, set, slice_get_within, still, sum_cut, size_at}
 use Rattle.std.specs.Prelude.{ltb}
 use Rattle.roman_joint.proofs.BackwardLemmas.{once_by, delegation, Comes, origin, in_seat_prev, pair_comes, found_backwards}
-use Rattle.roman_joint.proofs.Rows.{size_of_seat}
 use Rattle.roman_joint.proofs.WordLemmas.{on_set_same, on_set_other}
 use Rattle.roman_joint.proofs.SplitLemmas.{stride_rows, quotient}
 use Rattle.roman_joint.proofs.LeadLemmas.{start_row, lane_state, lane_part}
@@ -116,7 +115,7 @@ is_before s row y i lane p a k sys sizes first in_rows in_lanes below_p led =
     let own = slice_index q.bs k in
     let S = stride_of n k in
     let in_seats : k < length n.seats = omega (arith, length-map s.seats (λ (z : Seat). z.beh.states), slice_get_within s.seats k st.seat st.seated) in
-    let beh : IsBeh s.env st.seat.beh = sys.seats st.seat (seat_in s.seats k st.seat st.seated) in
+    let beh : IsBeh s.env st.seat.beh = sys.seats st.seat (get_in s.seats k st.seat st.seated) in
     let start = start_row s (row_in s x row) x lane k t own S ok in_lanes in_seats ((numbers_are_pairs s).pair p below_p).t refl refl in
     let (c, bands) = first_at s row y e t sizes first in
     let node : number n (origin q e t k b) ≡ p = ap (number n) comes.from ∙ (numbers_are_pairs s).there p below_p in
@@ -145,7 +144,7 @@ is_before s row y i lane p a k sys sizes first in_rows in_lanes below_p led =
           let wide : v * w ≡ product_of (drop (mid_in s) n.seats) = band_lanes n (mid_in s) (mid_low_le s) in
           let place : x * w + lane ≡ y * product_of (drop (mid_in s) n.seats) + j = omega (arith, ap (λ m. y * m) wide) in
           let digit : own ≡ lane_state_of n k j = ap (λ r. slice_index (pair_at n r).bs k) place ∙ lane_part n y j k sizes (subst (λ r. r < count n) place inside) past in_seats in
-          let state : b < slice_index n.seats k = subst (λ z. b < z) (sym (size_of_seat s.seats k st.seat st.seated)) (move_in_range s.env st.seat.beh b e a own beh st.moves).0 in
+          let state : b < slice_index n.seats k = subst (λ z. b < z) (sym (size_at s.seats k st.seat st.seated)) (move_in_range s.env st.seat.beh b e a own beh st.moves).0 in
           let within = lane_state n k j sizes past in_seats (omega (arith, l, wide)) in
           let taken : own * S ≤ j = rw digit within.taken in
           let there : j + b * S - own * S < w * v = omega (arith, rw (← digit) at (within.moves b state), wide) in
@@ -173,12 +172,11 @@ count_same f xs ys each once =
 
 -- no delegation leads to a node twice
 back_once : (A : Arena ℕ) (q : ℕ) → HasNoRepeats A.nodes → HasNoRepeats (back A q)
-back_once A q once = HasNoRepeats-filter (λ d. is_among A (A.outcomes d.node d.action d.seat) q) (delegations A)
-    (once_by _ (λ d. d.node) A.nodes once
+back_once A q once =
+    HasNoRepeats-filter (λ d. is_among A (A.outcomes d.node d.action d.seat) q) (delegations A) (once_by _ (λ d. d.node) A.nodes once
     (λ p i. once_by _ (λ d. d.action) (below A.actions) (HasNoRepeats-below A.actions)
     (λ a j. HasNoRepeats-map _ (below A.seats) (λ k o u v is. ap (λ (d : Delegation ℕ). d.seat) is) (HasNoRepeats-below A.seats))
-    (λ a d i j. grind (arith, from_map)))
-    (λ p d i j. grind (arith, from_flat_map, from_map)))
+    (λ a d i j. grind (arith, from_map))) (λ p d i j. grind (arith, from_flat_map, from_map)))
 
 -- the delegations to a seat count only if it stands before the band's own
 count_states : (s : Sys) (q : Pair) (a e t k : ℕ) (bs : List ℕ) → count_by (λ d. ltb d.seat (mid_in s)) (from_states s q a e t k bs) ≡ cond (ltb k (mid_in s)) (sum_by (λ b. 1) bs) 0
@@ -199,7 +197,7 @@ none_leads s row a n marks leading l off = record {
   marked = λ y any. absurd (subst (λ ts. IsIn any.holds.one ts) (leading.others a l off any.one any.among) any.holds.among);
   steps =
       let none : action_steps s row a ≡ sum_by (λ e. 0) (env_prev s.env row.env a) =
-      sum_by_same (env_steps s row a) (λ e. 0) (env_prev s.env row.env a) (λ e i. ap (sum_by (λ t. turn_steps s row a e)) (leading.others a l off e i)) in
+      sum_by_same (env_steps s row a) (λ e. 0) (env_prev s.env row.env a) (λ e i. ap (sum_by (λ t. target_steps s row a e)) (leading.others a l off e i)) in
       omega (arith, none, nothing (env_prev s.env row.env a));
 }
   where
@@ -214,8 +212,8 @@ count_front s row y i lane sys sizes first in_rows in_lanes =
     count_same _ (from_all s q) (back (numbered s) p) (found_backwards s p sys (here.looked.below lane in_lanes)) (back_once (numbered s) p (HasNoRepeats-below (count (sizes_of s))))
     ∙ sum_each f (from_action s q) (action_steps s row) (below s.env.actions)
     (λ a. sum_each f (from_env s q a) (env_steps s row a) (env_prev s.env q.e a)
-    (λ e. sum_each f (from_target s q a e) (λ t. turn_steps s row a e) (beh_prev s.target q.t e a) (λ t. target a e t)
-    ∙ ap (λ t. sum_by (λ u. turn_steps s row a e) (beh_prev s.target t e a)) (here.looked.targets lane in_lanes))
+    (λ e. sum_each f (from_target s q a e) (λ t. target_steps s row a e) (beh_prev s.target q.t e a) (λ t. target a e t)
+    ∙ ap (λ t. sum_by (λ u. target_steps s row a e) (beh_prev s.target t e a)) (here.looked.targets lane in_lanes))
     ∙ ap (λ e. sum_by (env_steps s row a) (env_prev s.env e a)) (here.looked.envs lane in_lanes))
   where
     here : InBand s y i row
@@ -239,7 +237,7 @@ count_front s row y i lane sys sizes first in_rows in_lanes =
     few : mid_in s ≤ length s.seats
     few = omega (arith, low_of-le (row_sizes (sizes_of s)).seats, length_rows (sizes_of s), low_of-le (sizes_of s).seats, length-map s.seats (λ (z : Seat). z.beh.states))
 
-    target : (a e t : ℕ) → sum_by f (from_target s q a e t) ≡ turn_steps s row a e
+    target : (a e t : ℕ) → sum_by f (from_target s q a e t) ≡ target_steps s row a e
     target a e t =
         sum_each f (from_seat s q a e t) (states a e) (below (length s.seats)) (λ k. count_states s q a e t k (prevs a e k))
         ∙ (sym (sum_cut (states a e) (mid_in s) (length s.seats) few (λ k l m. ap (λ z. cond z (sum_by (λ b. 1) (prevs a e k)) 0) (le-ltb k (mid_in s) l)))

@@ -1,5 +1,5 @@
 -- The numbers of the pairs to which a delegation can lead.
-use Rattle.roman_joint.proofs.Common.{◌≡◌, ℕ, ◌+◌, ◌-◌, ◌*◌, ◌%◌, ◌<◌, ◌≤◌, cond, List, [], ◌∷◌, Option, Some, IsTrue, IsFalse, map, length, slice_get, slice_index, slice_set, refl, sym, ap, ap₂, ◌∙◌, subst, inl, arith, flat_map, map-append, length-map, get_or-set_same, append-nil, slice_get_within, not-true, IsIn, product_of, Sys, Seat, Pair, IsSys, IsPair, env_next, beh_next, seat_next, outcomes, is_ready, Sizes, IsPairOf, sizes_of, count, number, pair_at, states_number, triple_in_range, move_in_range, from_env_next, seat_in, states_set, numbers_are_pairs, IsPairOf-from, IsPairOf-at, number-pair_at, AreBelow-length, number_below, from_beh_next, parts_of_number, states_number-set, stride_of, env_stride_of, target_stride_of, moved, IsPairWith}
+use Rattle.roman_joint.proofs.Common.{◌≡◌, ℕ, ◌+◌, ◌-◌, ◌*◌, ◌%◌, ◌<◌, ◌≤◌, cond, List, [], ◌∷◌, Option, Some, IsTrue, IsFalse, map, length, slice_get, slice_index, slice_set, refl, sym, ap, ap₂, ◌∙◌, subst, inl, arith, flat_map, map-append, length-map, get_or-set_same, append-nil, slice_get_within, not-true, IsIn, product_of, Sys, Seat, Pair, IsSys, IsPair, env_next, beh_next, seat_next, outcomes, is_ready, Sizes, IsPairOf, sizes_of, count, number, pair_at, states_number, triple_in_range, move_in_range, from_env_next, get_in, states_set, numbers_are_pairs, IsPairOf-from, IsPairOf-at, number-pair_at, AreBelow-length, number_below, from_beh_next, parts_of_number, states_number-set, stride_of, env_stride_of, target_stride_of, moved, IsPairWith}
 
 -- the first number, and how the numbers change
 pub record StartsAt (n : Sizes) (p k to row part env_stride stride : ℕ) : Type 0 where
@@ -83,7 +83,7 @@ are_outcomes s p a k to e b seat g envs states sys below_p seated ready is_e is_
       places = λ e b in_env in_states.
           let r : Pair = moved q to e k b in
           let env : e < s.env.states = (triple_in_range s.env q.e a e sys.env (from_env_next s.env q.e a e in_env)).2 in
-          let state : b < seat.beh.states = (move_in_range s.env seat.beh (slice_index q.bs k) q.e a b (sys.seats seat (seat_in s.seats k seat seated)) (from_beh_next seat.beh (slice_index q.bs k) q.e a b in_states)).3 in
+          let state : b < seat.beh.states = (move_in_range s.env seat.beh (slice_index q.bs k) q.e a b (sys.seats seat (get_in s.seats k seat seated)) (from_beh_next seat.beh (slice_index q.bs k) q.e a b in_states)).3 in
           let ok : IsPair s r = record { t = target_in_range s q.t q.e a to sys next; e = env; bs = states_set s.seats q.bs k b seat pair.bs seated state } in
           let here : pair_at n (g e b) ≡ r = ap (pair_at n) (numbers e b) ∙ (numbers_are_pairs s).back r ok in
           record {

@@ -1,17 +1,12 @@
 -- The system after a service is frozen, dropped or added.
-use Rattle.roman_joint.proofs.Common.{same_Some, slice_get-get_or, Inside, IsJoint, IsJointOf, named_sys_in, ◌≡◌, ℕ, zero, suc, ◌*◌, ◌/◌, ◌<◌, ◌≤◌, ◌↔◌, Bool, true, false, if◌then◌else◌, List, [], ◌∷◌, ◌++◌, Some, slice_get, slice_index, get_or, map, length, take, drop, refl, sym, ap, ap₂, ◌∙◌, subst, arith, All, AllByRecursion, remove, set, mul-le-mul_left, mul-le-mul_right, le-div_iff_mul-le, map_push, map-append, length-map, take-map, drop-map, All-from_recursion, All-append, All-drop, All-push, All-take, recursion_from_All, IsIn, HasNoRepeats, Sys, IsSys, IsBeh, Join, Die, after, Change, Freeze, Thaw, set_frozen, CanChange, Sizes, sizes_of, count, grown_sizes, sizes_without, MAX_SERVICES, seat_in, HasNoRepeats-push, states_frozen, remove_in, renaming_keeps, count-without, NamedBeh, NamedSys, beh_at, seat_of, system_of, cells, IsNamedSys, with_frozen, HasSameParts}
+use Rattle.roman_joint.proofs.Common.{same_Some, slice_get-get_or, Inside, IsJoint, IsJointOf, named_sys_in, ◌≡◌, ℕ, zero, suc, ◌*◌, ◌/◌, ◌<◌, ◌≤◌, ◌↔◌, Bool, true, false, if◌then◌else◌, List, [], ◌∷◌, ◌++◌, Some, slice_get, slice_index, get_or, map, length, take, drop, refl, sym, ap, ap₂, ◌∙◌, subst, arith, All, AllByRecursion, remove, set, mul-le-mul_left, mul-le-mul_right, le-div_iff_mul-le, map_push, map-append, length-map, take-map, drop-map, All-from_recursion, All-append, All-drop, All-push, All-take, recursion_from_All, IsIn, HasNoRepeats, Sys, IsSys, IsBeh, Join, Die, after, Change, Freeze, Thaw, set_frozen, CanChange, Sizes, sizes_of, count, grown_sizes, sizes_without, MAX_SERVICES, get_in, HasNoRepeats-push, states_frozen, remove_in, count-without, NamedBeh, NamedSys, beh_at, seat_of, system_of, cells, IsNamedSys, with_frozen, HasSameParts, IsSys-after, size_at}
 use Rattle.roman_model.specs.System as model
 use Rattle.roman_joint.specs.declared.seat.Seat.{Seat}
-use Rattle.roman_joint.proofs.Rows.{size_of_seat}
 use Rattle.roman_joint.proofs.BehaviourLemmas.{seat_read}
 
 -- the fields are those of a joint
 pub is_joint : (a : Inside) (n : NamedSys) → named_sys_in a ≡ n → IsJointOf a n → IsJoint a
 is_joint a n same ok = subst (IsJointOf a) (sym same) ok
-
--- a system after a change is well formed
-changed : (change : Change) (s : Sys) → IsSys s → CanChange change s → IsSys (after change s)
-changed change s sys can = (renaming_keeps change s [] sys can (λ x i. absurd i) tt).system
 
 -- the named system with these services
 abbrev pub with_seats : NamedSys → List Seat → NamedSys
@@ -30,7 +25,7 @@ with_the_seats m n seats parts same =
 seats_known : (n : NamedSys) (seats : List Seat) (change : Change) → IsNamedSys n → CanChange change (system_of n) → system_of (with_seats n seats) ≡ after change (system_of n) → cells (system_of (with_seats n seats)) ≤ n.limit →
     All (λ seat. seat.behaviour < length n.catalogue) seats → HasNoRepeats (map (λ seat. seat.name) seats) → IsNamedSys (with_seats n seats)
 seats_known n seats change known can is fits behaviours names = record {
-  system = subst IsSys (sym is) (changed change (system_of n) known.system can);
+  system = subst IsSys (sym is) (IsSys-after change (system_of n) known.system can);
   fits = fits;
   limit = known.limit;
   behaviours = behaviours;
@@ -44,8 +39,7 @@ seats_known n seats change known can is fits behaviours names = record {
 pub frozen_set : (seats : List Seat) (k : ℕ) (x : Seat) (frozen : Bool) → x ≡ get_or seats k x →
     set seats k (record { name = x.name; behaviour = x.behaviour; frozen = frozen; rests = x.rests }) ≡ with_frozen seats k frozen
 frozen_set [] k x frozen h = refl
-frozen_set (seat ∷ seats) zero x frozen h =
-    ap (λ (y : Seat). with_frozen (y ∷ seats) zero frozen) h
+frozen_set (seat ∷ seats) zero x frozen h = ap (λ (y : Seat). with_frozen (y ∷ seats) zero frozen) h
 frozen_set (seat ∷ seats) (suc k) x frozen h = ap (λ xs. seat ∷ xs) (frozen_set seats k x frozen h)
 
 frozen_seats : (catalogue : List NamedBeh) (seats : List Seat) (k : ℕ) (frozen : Bool) → map (seat_of catalogue) (with_frozen seats k frozen) ≡ set_frozen (map (seat_of catalogue) seats) k frozen
@@ -110,8 +104,8 @@ gone_known n k x known within is =
     let seat : model.Seat = seat_of n.catalogue x in
     let seated : slice_get s.seats k ≡ Some seat = seat_read n k x (slice_get-get_or n.seats k x within ∙ ap Some (sym is)) in
     let there : k < length (sizes_of s).seats = omega (arith, length-map s.seats (λ (y : model.Seat). y.beh.states), length-map n.seats (seat_of n.catalogue)) in
-    let size : slice_index (sizes_of s).seats k ≡ seat.beh.states = size_of_seat s.seats k seat seated in
-    let some : 0 < slice_index (sizes_of s).seats k = omega (arith, size, (known.system.seats seat (seat_in s.seats k seat seated)).states.0) in
+    let size : slice_index (sizes_of s).seats k ≡ seat.beh.states = size_at s.seats k seat seated in
+    let some : 0 < slice_index (sizes_of s).seats k = omega (arith, size, (known.system.seats seat (get_in s.seats k seat seated)).states.0) in
     let product : count (sizes_of s) ≡ count (sizes_without k (sizes_of s)) * slice_index (sizes_of s).seats k = count-without (sizes_of s) k there in
     let fewer : count (sizes_without k (sizes_of s)) * 1 ≤ count (sizes_without k (sizes_of s)) * slice_index (sizes_of s).seats k = mul-le-mul_left (count (sizes_without k (sizes_of s))) some in
     let less : count (sizes_without k (sizes_of s)) ≤ count (sizes_of s) = omega arith in

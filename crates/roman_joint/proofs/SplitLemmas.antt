@@ -1,5 +1,5 @@
 -- How rows are made and looked up.
-use Rattle.roman_joint.proofs.Common.{AreBelow-index, IsPairOf-at, part_at, AreLeading, ArePermitted, AreRowsOf, IsRow, lanes_in, low_in, lane_state_of, AreSizes, IsSizes, stride_of, target_stride_of, AreSizes-index, env_rows_are, exact, lanes_positive, low_of-le, row_below, row_div, row_least, tails_from, row_stride_of, row_size, IsBeh, Seat, Sys, IsIn, below, product_of, IsNamedSys, NamedSys, system_of, IsPairOf, Sizes, count, pair_at, sizes_of, List, [], ap, ap₂, arith, inl, inr, length, map, refl, slice_index, subst, suc, sym, zero, ℕ, ◌%◌, ◌*◌, ◌+◌, ◌-◌, ◌/◌, ◌<◌, ◌∙◌, ◌∷◌, ◌≡◌, Row, Rows, env_rows_of, lanes_of, low_of, target_rows_of, row_sizes, length-map, mul-add-lt}
+use Rattle.roman_joint.proofs.Common.{AreBelow-index, IsPairOf-at, part_at, AreLeading, ArePermitted, IsLayoutOf, IsRow, lanes_in, low_in, lane_state_of, AreSizes, IsSizes, stride_of, target_stride_of, AreSizes-index, env_rows_are, exact, lanes_positive, low_of-le, row_below, row_div, tails_from, row_stride_of, row_size, IsBeh, Seat, Sys, IsIn, below, product_of, IsNamedSys, NamedSys, system_of, IsPairOf, Sizes, count, pair_at, sizes_of, List, [], ap, ap₂, arith, inl, inr, length, map, refl, slice_index, subst, suc, sym, zero, ℕ, ◌%◌, ◌*◌, ◌+◌, ◌-◌, ◌/◌, ◌<◌, ◌∙◌, ◌∷◌, ◌≡◌, Row, Layout, env_rows_of, lanes_of, low_of, target_rows_of, row_sizes, length-map, mul-add-lt, mul_cancel}
 use Rattle.roman_joint.proofs.Rows.{count_fits}
 
 -- the pairs of a joint have numbers of 32 bits
@@ -27,10 +27,6 @@ positive_of (suc a) w p e pos = omega arith
 pub size_positive : (n : Sizes) (k : ℕ) → IsSizes n → k < length n.seats → 0 < slice_index n.seats k
 size_positive n k h l = (AreSizes-index n.seats k h.seats l).0
 
--- a factor can be cancelled
-pub factor : (x y w : ℕ) → 0 < w → x * w ≡ y * w → x ≡ y
-factor x y w pos e = grind (arith, row_least)
-
 -- a stride in rows
 pub stride_rows : (n : Sizes) (k : ℕ) → IsSizes n → k < low_of n.seats → stride_of n k / lanes_of n.seats * lanes_of n.seats ≡ stride_of n k
 stride_rows n k h l =
@@ -43,11 +39,11 @@ target_rows_are n = grind (arith, env_rows_are)
 
 -- a product divided by a factor
 pub quotient : (a m w : ℕ) → 0 < w → m * w ≡ a → a / w ≡ m
-quotient a m w pos is = factor (a / w) m w pos (exact a m w pos (sym is) ∙ sym is)
+quotient a m w pos is = mul_cancel (a / w) m w pos (exact a m w pos (sym is) ∙ sym is)
 
 -- the stride of a seat before the lanes, counted in rows
-pub row_stride : (n : Sizes) (r : Rows) (k : ℕ) → AreRowsOf n r → k < low_of n.seats → slice_index r.strides k ≡ stride_of n k / lanes_of n.seats
-row_stride n r k rows l = factor (slice_index r.strides k) (stride_of n k / lanes_of n.seats) (lanes_of n.seats) (lanes_positive n.seats rows.ok.seats) (rows.before k l ∙ sym (stride_rows n k rows.ok l))
+pub row_stride : (n : Sizes) (r : Layout) (k : ℕ) → IsLayoutOf n r → k < low_of n.seats → slice_index r.strides k ≡ stride_of n k / lanes_of n.seats
+row_stride n r k rows l = mul_cancel (slice_index r.strides k) (stride_of n k / lanes_of n.seats) (lanes_of n.seats) (lanes_positive n.seats rows.ok.seats) (rows.before k l ∙ sym (stride_rows n k rows.ok l))
 
 -- the pairs of a row are in range
 pub row_inside : (n : Sizes) (x lane rows : ℕ) → rows * lanes_of n.seats ≡ count n → x < rows → lane < lanes_of n.seats → x * lanes_of n.seats + lane < count n

@@ -1,5 +1,5 @@
 -- One step of a walk backwards: the delegations that are left, and the new position.
-use Rattle.roman_joint.proofs.Common.{Beh, Env, IsBeh, IsEnv, IsSys, Pair, Seat, Sys, has_move, has_triple, Bool, List, None, Option, Some, [], ap, arith, cond, drop, false, get_or, inl, inr, length, refl, slice_get, slice_index, slice_set, subst, sym, true, ℕ, ◌++◌, ◌+◌, ◌-◌, ◌<◌, ◌∙◌, ◌∷◌, ◌≡◌, ◌≤◌, Delegation, back, HoldsEachOnce, below, IsWalk, WalkGoesOn, goal_of, left, left_of_action, left_of_all, left_of_env, left_of_seat, left_of_target, states_before, Walk, append_assoc, drop_all, drop_more, length-map, beh_prev, env_prev, cases_lt, count, number, numbered, pair_at, sizes_of, count_by-le-length, length-filter, flat_map, from_action, from_all, from_env, from_seat, from_states, from_target, seat_prev, get_or-below, length-below, seat_in, slice_get_past}
+use Rattle.roman_joint.proofs.Common.{Beh, Env, IsBeh, IsEnv, IsSys, Pair, Seat, Sys, has_move, has_triple, Bool, List, None, Option, Some, [], ap, arith, cond, drop, false, get_or, inl, inr, length, refl, slice_get, slice_index, slice_set, subst, sym, true, ℕ, ◌++◌, ◌+◌, ◌-◌, ◌<◌, ◌∙◌, ◌∷◌, ◌≡◌, ◌≤◌, Delegation, back, HoldsEachOnce, below, IsWalk, WalkGoesOn, goal_of, left, left_of_action, left_of_all, left_of_env, left_of_seat, left_of_target, states_before, Walk, append_assoc, drop_all, drop_more, length-map, beh_prev, env_prev, cases_lt, count, number, numbered, pair_at, sizes_of, count_by-le-length, length-filter, flat_map, from_action, from_all, from_env, from_seat, from_states, from_target, seat_prev, get_or-below, length-below, get_in, slice_get_past}
 use Rattle.roman_joint.proofs.BackwardLemmas.{found_backwards}
 
 -- joined lists are the first one and the rest
@@ -114,7 +114,7 @@ module _ (s : Sys) (sys : IsSys s) (w : Walk) (ok : IsWalk s w) where
 
 -- a seat has at most 64 predecessor states
 pub few_seat_prev : (s : Sys) (k b' e a : ℕ) → IsSys s → length (seat_prev (slice_get s.seats k) b' e a) ≤ 64
-few_seat_prev s k b' e a sys = by (slice_get s.seats k) (λ seat there. sys.seats seat (seat_in s.seats k seat there))
+few_seat_prev s k b' e a sys = by (slice_get s.seats k) (λ seat there. sys.seats seat (get_in s.seats k seat there))
   where
     by : (o : Option Seat) → ((seat : Seat) → o ≡ Some seat → IsBeh s.env seat.beh) → length (seat_prev o b' e a) ≤ 64
     by None ok = omega arith

@@ -1,6 +1,5 @@
 -- The lanes of words that are combined.
-use Rattle.roman_joint.proofs.Common.{on_full, on_full_past, on_and, list_any_more, ◌≡◌, ℕ, ◌+◌, ◌-◌, ◌*◌, ◌/◌, ◌%◌, ◌^◌, ◌<◌, Bool, true, false, not, ◌&&◌, ◌||◌, List, [], ◌∷◌, length, take, drop, get_or, inl, inr, sym, ap, ◌∙◌, arith, eqb, bit_and, length-drop, and-true, or-false, bit_at, list_any, cases_lt, lt-ltb, le-ltb, shr_and_one, bit_at-zero, bit_at_cat_low, bit_at_cat_high, bit_at_above, is_on, shr-shr, pow_pos}
-use Rattle.std.proofs.Common.{take_all}
+use Rattle.roman_joint.proofs.Common.{on_full, on_full_past, on_and, list_any_more, ◌≡◌, ℕ, ◌+◌, ◌-◌, ◌*◌, ◌/◌, ◌%◌, ◌^◌, ◌<◌, Bool, true, false, not, ◌&&◌, ◌||◌, List, [], ◌∷◌, length, take, get_or, inl, inr, sym, ap, ◌∙◌, arith, eqb, bit_and, and-true, or-false, bit_at, list_any, cases_lt, lt-ltb, le-ltb, shr_and_one, bit_at-zero, bit_at_cat_low, bit_at_cat_high, bit_at_above, is_on, shr-shr, pow_pos}
 pub use Rattle.roman_lanes.proofs.CallerLemmas.{on_set_same, on_set_other}
 
 -- the first lanes of a full word
@@ -41,10 +40,6 @@ pub alive_more : {X : Type 0} (test : X → Bool) (xs : List X) (i : ℕ) (d : X
     is_on (bit_and alive word) lane ≡ (is_on good lane && not (list_any test (take (i + 1) xs)))
 alive_more test xs i d good alive word lane l before here =
     none_after test xs i d (is_on good lane) (is_on alive lane) (is_on (bit_and alive word) lane) l before (on_and alive word lane ∙ ap (λ b. is_on alive lane && b) here)
-
--- the words from a place on
-pub words_from : (words : List ℕ) (from : ℕ) → take (length words - from) (drop from words) ≡ drop from words
-words_from words from = take_all (length words - from) (drop from words) (omega (arith, length-drop from words))
 
 -- the test of the only element
 pub any_one : {X : Type 0} (p : X → Bool) (xs : List X) (d : X) → length xs ≡ 1 → list_any p xs ≡ p (get_or xs 0 d)

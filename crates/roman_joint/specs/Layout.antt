@@ -7,7 +7,7 @@ use Rattle.roman_joint.specs.declared.seat.Parts.{Parts}
 use Rattle.roman_joint.specs.declared.tables.Tables.{Tables}
 use Rattle.roman_joint.specs.NamedSys.{NamedSys, system_of, IsNamedSys}
 use Rattle.roman_joint.specs.TargetViews.{AreTargetViews}
-use Rattle.roman_joint.specs.Rows.{AreRowsOf}
+use Rattle.roman_joint.specs.Rows.{IsLayoutOf}
 use Rattle.roman_joint.specs.Moves.{HoldsMoves, system_in}
 
 -- the system with its names that the fields hold
@@ -24,7 +24,7 @@ named_sys_in a = record {
 pub record IsJointOf (a : Inside) (n : NamedSys) : Type 0 where
   pub known : IsNamedSys n
   pub shape : a.shape ≡ sizes_of (system_of n)
-  pub rows : AreRowsOf (sizes_of (system_of n)) a.rows
+  pub rows : IsLayoutOf (sizes_of (system_of n)) a.rows
   pub moves : HoldsMoves (system_of n) a.moves
   pub target_views : AreTargetViews a.environment.env a.target.beh a.target_views.items
   pub room : MAX_SERVICES ≤ vec_capacity a.seats
@@ -38,5 +38,5 @@ pub record AreTables (parts : Parts) (sizes : Sizes) (tables : Tables) : Type 0 
   pub places : tables.places.items ≡ parts.seats.now
   pub room : MAX_SERVICES ≤ vec_capacity tables.places
   pub target_views : AreTargetViews parts.environment.now.env parts.target.now.beh tables.target_views.items
-  pub rows : AreRowsOf sizes tables.rows
+  pub rows : IsLayoutOf sizes tables.rows
   pub moves : HoldsMoves (system_in parts) tables.moves

@@ -1,5 +1,6 @@
 pub mod Errors
 pub mod NamedSys
+pub mod Pairs
 pub mod Parts
 pub mod Names
 pub mod Behaviours

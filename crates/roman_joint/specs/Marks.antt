@@ -58,12 +58,12 @@ IsBeforeSeat s row a e base k =
     AnyOf (IsMoved base stride (slice_index row.states k * stride) (band_in s)) (seat_prev (slice_get s.seats k) (slice_index row.states k) e a)
 
 -- from the band, at the target's t and the environment's e, a leads to the row's band
-pub record IsBeforeTurn (s : Sys) (row : Row) (a e t y : ℕ) : Type 0 where
+pub record IsBeforeTarget (s : Sys) (row : Row) (a e t y : ℕ) : Type 0 where
   pub either : (y ≡ row_at s row e t / band_in s) ⊎ AnyOf (IsBeforeSeat s row a e (row_at s row e t)) (below (mid_in s)) y
 
 -- from the band, at the environment's e, a leads to the row's band
 abbrev pub IsBeforeEnv : Sys → Row → ℕ → ℕ → ℕ → Type 0
-IsBeforeEnv s row a e = AnyOf (IsBeforeTurn s row a e) (beh_prev s.target row.target e a)
+IsBeforeEnv s row a e = AnyOf (IsBeforeTarget s row a e) (beh_prev s.target row.target e a)
 
 -- from the band, a leads to the row's band
 abbrev pub IsBeforeAction : Sys → Row → ℕ → ℕ → Type 0
@@ -74,12 +74,12 @@ abbrev pub seat_steps : Sys → Row → ℕ → ℕ → ℕ → ℕ
 seat_steps s row a e k = sum_by (λ b. 1) (seat_prev (slice_get s.seats k) (slice_index row.states k) e a)
 
 -- the steps for the seats before the band's own, by a in environment state e
-abbrev pub turn_steps : Sys → Row → ℕ → ℕ → ℕ
-turn_steps s row a e = sum_by (seat_steps s row a e) (below (mid_in s))
+abbrev pub target_steps : Sys → Row → ℕ → ℕ → ℕ
+target_steps s row a e = sum_by (seat_steps s row a e) (below (mid_in s))
 
 -- the steps for all states of the target from which it goes by a, in environment state e, to its state in the row
 abbrev pub env_steps : Sys → Row → ℕ → ℕ → ℕ
-env_steps s row a e = sum_by (λ t. turn_steps s row a e) (beh_prev s.target row.target e a)
+env_steps s row a e = sum_by (λ t. target_steps s row a e) (beh_prev s.target row.target e a)
 
 -- the steps for all states of the environment from which it goes by a to its state in the row
 abbrev pub action_steps : Sys → Row → ℕ → ℕ

@@ -11,13 +11,13 @@ use Rattle.roman_lanes.specs.Rows.{is_on}
 use Rattle.roman_parts.specs.Named.{NamedBeh}
 use Rattle.roman_joint.specs.NamedSys.{system_of, IsNamedSys}
 use Rattle.roman_joint.specs.Parts.{named_in}
-use Rattle.roman_joint.specs.Rows.{low_in, lane_state_of, AreRowsOf}
-use Rattle.roman_joint.specs.declared.layout.Rows.{Rows}
+use Rattle.roman_joint.specs.Rows.{low_in, lane_state_of, IsLayoutOf}
+use Rattle.roman_joint.specs.declared.layout.Layout.{Layout}
 use Rattle.roman_joint.specs.declared.moves.Move.{Move}
 use Rattle.roman_joint.specs.declared.moves.Span.{Span}
 use Rattle.roman_joint.specs.declared.moves.Moves.{Moves}
 use Rattle.roman_joint.specs.declared.seat.Parts.{Parts}
-use Rattle.roman_joint.specs.declared.ways.Ways.{Ways}
+use Rattle.roman_joint.specs.declared.shifts.Shifts.{Shifts}
 
 -- these are the moves of seat k, from each lane to those of the next states of its state there; `some` are the lanes with a next state
 pub record AreLaneMoves (n : Sizes) (k : ℕ) (next : ℕ → List ℕ) (some : ℕ) (moves : List Move) : Type 0 where
@@ -44,8 +44,8 @@ pub record LosesMoving (some : ℕ) (moves : List Move) (alive old new : ℕ) : 
   pub none : (lane : ℕ) → is_on old lane ≡ false → is_on new lane ≡ false
 
 -- the rows are those of the sizes, seat k is within the lanes and has the behaviour, and e and a are a state of its environment and an action
-pub record SuitsWays (n : Sizes) (rows : Rows) (k : ℕ) (behaviour : NamedBeh) (e a : ℕ) : Type 0 where
-  pub laid : AreRowsOf n rows
+pub record SuitsShifts (n : Sizes) (rows : Layout) (k : ℕ) (behaviour : NamedBeh) (e a : ℕ) : Type 0 where
+  pub laid : IsLayoutOf n rows
   pub within : low_of n.seats ≤ k
   pub seat : k < length n.seats
   pub states : behaviour.beh.states ≡ slice_index n.seats k
@@ -53,24 +53,28 @@ pub record SuitsWays (n : Sizes) (rows : Rows) (k : ℕ) (behaviour : NamedBeh) 
   pub env : e < behaviour.env_states
   pub action : a < behaviour.actions
 
--- the lanes of each way are those of seat k with the behaviour on a in environment state e; way j leads j + 1 - n states up, of n states
-pub record AreWays (n : Sizes) (k : ℕ) (beh : Beh) (e a : ℕ) (ways : Ways) : Type 0 where
-  pub each : (lane : ℕ) → lane < lanes_of n.seats → is_on ways.some lane ≡ not (is_empty (beh_next beh (lane_state_of n k lane) e a))
-  pub rest : (lane : ℕ) → lanes_of n.seats ≤ lane → is_on ways.some lane ≡ false
-  pub goes : (j lane : ℕ) → lane < lanes_of n.seats → is_on (slice_index ways.lanes j) lane ≡ list_any (λ b. b + slice_index n.seats k == j + 1 + lane_state_of n k lane) (beh_next beh (lane_state_of n k lane) e a)
+-- the lanes of each shift are those of seat k with the behaviour on a in environment state e; shift j leads j + 1 - n states up, of n states
+pub record AreShifts (n : Sizes) (k : ℕ) (beh : Beh) (e a : ℕ) (shifts : Shifts) : Type 0 where
+  pub each : (lane : ℕ) → lane < lanes_of n.seats → is_on shifts.some lane ≡ not (is_empty (beh_next beh (lane_state_of n k lane) e a))
+  pub rest : (lane : ℕ) → lanes_of n.seats ≤ lane → is_on shifts.some lane ≡ false
+  pub goes : (j lane : ℕ) → lane < lanes_of n.seats → is_on (slice_index shifts.lanes j) lane ≡ list_any (λ b. b + slice_index n.seats k == j + 1 + lane_state_of n k lane) (beh_next beh (lane_state_of n k lane) e a)
 
--- the move of a way
+-- the move of these lanes by shift j
+abbrev pub move_by : ℕ → ℕ → ℕ → ℕ → Move
+move_by lanes last stride j = record { lanes = lanes; from = (last - j) * stride; to = (j - last) * stride }
+
+-- the move of a shift
 abbrev pub lane_move : List ℕ → ℕ → ℕ → ℕ → Move
-lane_move lanes last stride j = record { lanes = slice_index lanes j; from = (last - j) * stride; to = (j - last) * stride }
+lane_move lanes last stride j = move_by (slice_index lanes j) last stride j
 
--- the moves of the first `count` ways, without the ways in which no lane moves
+-- the moves of the first `count` shifts, without the shifts by which no lane moves
 abbrev pub lane_moves_from : List ℕ → ℕ → ℕ → ℕ → List Move
 lane_moves_from lanes last stride count = map (lane_move lanes last stride) (filter (λ j. not (slice_index lanes j == 0)) (below count))
 
--- the greatest number of ways of seats of these sizes
-abbrev pub ways_room : List ℕ → ℕ
-ways_room [] = 0
-ways_room (size ∷ sizes) = 2 * size - 1 + ways_room sizes
+-- the greatest number of shifts of seats of these sizes
+abbrev pub shifts_room : List ℕ → ℕ
+shifts_room [] = 0
+shifts_room (size ∷ sizes) = 2 * size - 1 + shifts_room sizes
 
 -- the number of seats within the lanes
 abbrev pub within_in : Sys → ℕ
@@ -91,10 +95,10 @@ pub record IsSpan (s : Sys) (i : ℕ) (span : Span) (moves : List Move) : Type 0
 pub record HoldsSpans (s : Sys) (spans : List Span) (moves : List Move) : Type 0 where
   pub each : (i : ℕ) (span : Span) → i < length spans → span ≡ slice_index_or spans i span → IsSpan s i span moves
 
--- the table has the moves of all seats within the lanes, on the first actions and states of the environment, as many as `turns`
-pub record HoldsTurns (s : Sys) (turns : ℕ) (table : Moves) : Type 0 where
-  pub long : length table.spans.items ≡ turns * within_in s
-  pub few : length table.moves.items ≤ turns * 160
+-- the table has the moves of all seats within the lanes, in the first `columns` columns, each for a state of the environment and an action
+pub record HoldsColumns (s : Sys) (columns : ℕ) (table : Moves) : Type 0 where
+  pub long : length table.spans.items ≡ columns * within_in s
+  pub few : length table.moves.items ≤ columns * 160
   pub spans_at : HoldsSpans s table.spans.items table.moves.items
 
 -- the table is one for systems with this environment, and has room for the moves of the greatest number of services
@@ -107,7 +111,7 @@ pub record SuitsEnv (env : Env) (table : Moves) : Type 0 where
 -- the table has the moves of all seats within the lanes
 pub record HoldsMoves (s : Sys) (table : Moves) : Type 0 where
   pub suits : SuitsEnv s.env table
-  pub turns : HoldsTurns s (s.env.states * s.env.actions) table
+  pub columns : HoldsColumns s (s.env.states * s.env.actions) table
 
 -- the table has the same numbers of states of the environment and of actions as before, and the same room
 pub record IsKept (old new : Moves) : Type 0 where

@@ -12,6 +12,10 @@ outcome_number o e b = o.base + e * o.env_stride + b * o.stride
 abbrev pub outcome_numbers : Outcomes → List ℕ
 outcome_numbers o = flat_map (λ e. map (λ b. outcome_number o e b) o.states.now) o.envs.now
 
+-- P holds of each of these states of the environment with each of those of the seat
+abbrev pub AllOutcomes : Outcomes → (ℕ → ℕ → Type 0) → Type 0
+AllOutcomes o P = All (λ e. All (P e) o.states.now) o.envs.now
+
 -- the number is that of a pair with the environment in state e and seat k in state b
 pub record IsPairWith (n : Sizes) (k q e b : ℕ) : Type 0 where
   pub below : q < count n
@@ -26,5 +30,5 @@ pub record AreWithin (base stride many long : ℕ) (states : List ℕ) : Type 0 
 -- of the numbers, each and the `many - 1` after it are below `long`, and all have 32 bits
 pub record SuitsRows (rows : Outcomes) (many long : ℕ) : Type 0 where
   pub envs : All (λ e. rows.base + e * rows.env_stride < 2 ^ 32) rows.envs.now
-  pub fits : All (λ e. All (λ b. outcome_number rows e b < 2 ^ 32) rows.states.now) rows.envs.now
-  pub within : All (λ e. All (λ b. outcome_number rows e b + many ≤ long) rows.states.now) rows.envs.now
+  pub fits : AllOutcomes rows (λ e b. outcome_number rows e b < 2 ^ 32)
+  pub within : AllOutcomes rows (λ e b. outcome_number rows e b + many ≤ long)

@@ -10,10 +10,10 @@ use Rattle.roman_radix.specs.Radix.{IsSizes, stride_of}
 use Rattle.roman_radix.specs.Rows.{low_of, lanes_of, row_sizes, env_rows_of, target_rows_of}
 use Rattle.roman_lanes.specs.Rows.{is_on, AreRows, HasLanes}
 use Rattle.roman_joint.specs.TargetViews.{ArePermitted, AreLeading}
-use Rattle.roman_joint.specs.declared.layout.Rows.{Rows}
+use Rattle.roman_joint.specs.declared.layout.Layout.{Layout}
 use Rattle.roman_joint.specs.declared.row.Row.{Row}
-use Rattle.roman_joint.specs.declared.turn.TargetMove.{TargetMove}
-use Rattle.roman_joint.specs.declared.turn.Turn.{Turn}
+use Rattle.roman_joint.specs.declared.attempt.TargetMove.{TargetMove}
+use Rattle.roman_joint.specs.declared.attempt.Attempt.{Attempt}
 
 -- the number of pairs in a row of the system
 abbrev pub lanes_in : Sys → ℕ
@@ -32,7 +32,7 @@ abbrev pub lane_state_of : Sizes → ℕ → ℕ → ℕ
 lane_state_of n k lane = lane / stride_of n k % slice_index n.seats k
 
 -- no size is 0, and the rows are those of the sizes: strides of seats before the lanes are counted in rows, and those of seats within them in lanes
-pub record AreRowsOf (n : Sizes) (r : Rows) : Type 0 where
+pub record IsLayoutOf (n : Sizes) (r : Layout) : Type 0 where
   pub ok : IsSizes n
   pub low : r.low ≡ low_of n.seats
   pub mid : r.mid ≡ low_of (row_sizes n).seats
@@ -69,16 +69,16 @@ abbrev pub is_open : Sys → Row → ℕ → Bool
 is_open s row a = not (is_empty (env_next s.env row.env a)) && not (is_empty (beh_next s.target row.target row.env a))
 
 -- the action leads from the row to one state of the target and these of the environment; `base` is the row at that state of the target and state 0 of the environment
-pub record IsTargetMove (s : Sys) (row : Row) (a : ℕ) (turn : TargetMove) : Type 0 where
+pub record IsTargetMove (s : Sys) (row : Row) (a : ℕ) (target_move : TargetMove) : Type 0 where
   pub to : ℕ
   pub target : beh_next s.target row.target row.env a ≡ to ∷ []
-  pub base : turn.base ≡ to * target_rows_of (sizes_of s) + row.part
-  pub worlds : turn.envs.now ≡ env_next s.env row.env a
-  pub some : IsFalse (is_empty turn.envs.now)
+  pub base : target_move.base ≡ to * target_rows_of (sizes_of s) + row.part
+  pub worlds : target_move.envs.now ≡ env_next s.env row.env a
+  pub some : IsFalse (is_empty target_move.envs.now)
 
--- these are the alive lanes of the turn: those at which it leads to no pair that is gone, in any state of the environment
-pub record AreAlive (s : Sys) (gone : ℕ → Bool) (turn : TargetMove) (alive : ℕ) : Type 0 where
-  pub each : (lane : ℕ) → lane < lanes_in s → is_on alive lane ≡ not (list_any (λ e. gone ((turn.base + e * env_rows_of (sizes_of s)) * lanes_in s + lane)) turn.envs.now)
+-- these are the alive lanes of the attempt: those at which it leads to no pair that is gone, in any state of the environment
+pub record AreAlive (s : Sys) (gone : ℕ → Bool) (target_move : TargetMove) (alive : ℕ) : Type 0 where
+  pub each : (lane : ℕ) → lane < lanes_in s → is_on alive lane ≡ not (list_any (λ e. gone ((target_move.base + e * env_rows_of (sizes_of s)) * lanes_in s + lane)) target_move.envs.now)
 
 -- the words have, row by row, the bits of the pairs that aren't gone
 abbrev pub HasAlive : Sys → (ℕ → Bool) → List ℕ → Type 0
@@ -94,13 +94,13 @@ abbrev pub HasResting : Sys → ℕ → Type 0
 HasResting s word = (lane : ℕ) → lane < lanes_in s → is_on word lane
     ≡ all_below (λ k. ltb k (low_in s) || may_rest (slice_get s.seats k) (lane_state_of (sizes_of s) k lane)) (length s.seats)
 
--- the turn is that of an action of the system at row x, and has a word for each row
-pub record IsTurn (s : Sys) (x : ℕ) (turn : Turn) : Type 0 where
-  pub row : IsRow s x turn.row.now
-  pub to : IsTargetMove s turn.row.now turn.action turn.to
-  pub action : turn.action < s.env.actions
-  pub room : length turn.words.now * lanes_in s ≡ count (sizes_of s)
+-- the attempt is that of an action of the system at row x, and has a word for each row
+pub record IsAttempt (s : Sys) (x : ℕ) (attempt : Attempt) : Type 0 where
+  pub row : IsRow s x attempt.row.now
+  pub to : IsTargetMove s attempt.row.now attempt.action attempt.to
+  pub action : attempt.action < s.env.actions
+  pub room : length attempt.words.now * lanes_in s ≡ count (sizes_of s)
 
--- the word has exactly the lanes at which seat k serves the turn's action, where `alive` has the alive lanes of the turn
-pub record AreServed (s : Sys) (turn : Turn) (alive k word : ℕ) : Type 0 where
-  pub each : (x : ℕ) (gone : ℕ → Bool) → IsRow s x turn.row.now → HasAlive s gone turn.words.now → AreAlive s gone turn.to alive → HasLanes (lanes_in s) x (λ p. not (is_beaten (numbered s) gone p turn.action k)) word
+-- the word has exactly the lanes at which seat k serves the attempt's action, where `alive` has the alive lanes of the attempt
+pub record AreServed (s : Sys) (attempt : Attempt) (alive k word : ℕ) : Type 0 where
+  pub each : (x : ℕ) (gone : ℕ → Bool) → IsRow s x attempt.row.now → HasAlive s gone attempt.words.now → AreAlive s gone attempt.to alive → HasLanes (lanes_in s) x (λ p. not (is_beaten (numbered s) gone p attempt.action k)) word

@@ -54,12 +54,12 @@ abbrev pub left : Sys → Walk → List (Delegation ℕ)
 left s walk = left_of_seat s walk ++ (left_of_target s walk ++ (left_of_env s walk ++ (left_of_action s walk ++ left_of_all s walk)))
 
 -- a number that falls with each move of the walk: each part counts more than all parts after it
-abbrev pub way_left : Sys → Walk → ℕ
-way_left s walk =
+abbrev pub walk_left : Sys → Walk → ℕ
+walk_left s walk =
     (s.env.actions - walk.action) * 2 ^ 20 + (64 - walk.envs_taken) * 2 ^ 13 + (64 - walk.targets_taken) * 2 ^ 6 + (length s.seats - walk.seat)
 
 -- the walk moves on, and the same delegations are left
 pub record WalkGoesOn (s : Sys) (old new : Walk) : Type 0 where
   pub walk : IsWalk s new
   pub left : left s new ≡ left s old
-  pub falls : way_left s new < way_left s old
+  pub falls : walk_left s new < walk_left s old

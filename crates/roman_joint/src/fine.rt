@@ -54,7 +54,8 @@ pub(crate) fn front_rests(joint: &Joint, row: &Row, many: u8) -> bool
 pub(crate) fn own_rests(joint: &Joint, i: u32) -> bool
     requires { i < band_in (system_of joint.now) }
     ensures { let s = system_of joint.now in
-        result ≡ all_below (λ k. ltb k (mid_in s) || may_rest_in (slice_get s.seats k) (lane_state_of (row_sizes (sizes_of s)) k i)) (low_in s) }
+        result ≡ all_below (λ k. ltb k (mid_in s)
+        || may_rest_in (slice_get s.seats k) (lane_state_of (row_sizes (sizes_of s)) k i)) (low_in s) }
 {
     let rows = joint.layout();
     for k in rows.mid..rows.low {

@@ -5,9 +5,10 @@ ghost use Rattle.roman_model.specs.Numbers.{sizes_of};
 ghost use Rattle.roman_model.specs.declared.limits.TheConstants.{MAX_SERVICES, MAX_CELLS};
 ghost use Rattle.roman_joint.specs.Behaviours.{IsSeatBehaviour};
 ghost use Rattle.roman_joint.specs.NamedSys.{NamedSys, named_parts, system_of, cells, IsOverEnv, TargetIsOverEnv, IsNamedSys};
-ghost use Rattle.roman_joint.specs.Rows.{AreRowsOf, low_in};
+ghost use Rattle.roman_joint.specs.Rows.{IsLayoutOf, low_in};
 ghost use Rattle.roman_joint.specs.Moves.{AreLaneMoves, HoldsMoves};
 ghost use Rattle.roman_model.specs.SystemArena.{seat_next};
+ghost use Rattle.roman_joint.specs.Pairs.{joint_seat, joint_actions};
 
 mod changes;
 mod copies;
@@ -16,7 +17,7 @@ mod names;
 mod walks;
 
 use crate::error::JointError;
-use crate::layout::Rows;
+use crate::layout::Layout;
 use crate::moves::{Move, Moves, part};
 use crate::seat::{Parts, Seat};
 use crate::seats::shape_of;
@@ -42,7 +43,7 @@ pub struct Joint {
     // Has room for the greatest number of services.
     seats: Vec<Seat>,
     shape: Shape,
-    rows: Rows,
+    rows: Layout,
     moves: Moves,
     // Ordered by the target's state, and then by the environment's.
     target_views: Vec<TargetView>,
@@ -100,7 +101,8 @@ impl Joint {
         requires behaviours { All (λ seat. seat.behaviour < vec_len catalogue) seats.items }
         requires names { HasNoRepeats (map (λ seat. seat.name) seats.items) }
         requires limit { (0 < limit) × (limit ≤ MAX_CELLS) }
-        ensures parts { IfOk result (λ joint. joint ≡ named_parts environment catalogue.items target seats.items limit) }
+        ensures parts { IfOk result (λ joint. joint
+            ≡ named_parts environment catalogue.items target seats.items limit) }
         ensures limit { (result ≡ Err JointError.Limit)
             ↔ (limit < cells (system_of (named_parts environment catalogue.items target seats.items limit))) }
     {
@@ -185,9 +187,9 @@ impl Joint {
     }
 
     // Returns how the numbers of pairs split into rows and lanes.
-    pub(crate) fn layout(&self) -> &Rows
+    pub(crate) fn layout(&self) -> &Layout
         ensures known { IsNamedSys self.now }
-        ensures rows { AreRowsOf (sizes_of (system_of self.now)) result.now }
+        ensures rows { IsLayoutOf (sizes_of (system_of self.now)) result.now }
     {
         &self.rows
     }
@@ -206,17 +208,18 @@ impl Joint {
         requires within { low_in (system_of self.now) ≤ k }
         requires seat { k < length self.now.seats }
         requires env { e < (system_of self.now).env.states }
-        requires action { a < (system_of self.now).env.actions }
-        ensures { AreLaneMoves (sizes_of (system_of self.now)) k (λ b. seat_next (slice_get (system_of self.now).seats k) b e a) result.0 result.1.now }
+        requires action { a < joint_actions self.now }
+        ensures { AreLaneMoves (sizes_of (system_of self.now)) k
+            (λ b. seat_next (joint_seat self.now k) b e a) result.0 result.1.now }
     {
         if self.seat(k).frozen {
             return (0, &[]);
         }
         let rows = self.layout();
         let table = self.table();
-        let turn = u32::from(e) * table.actions + u32::from(a);
+        let attempt = u32::from(e) * table.actions + u32::from(a);
         let lows = u32::from(self.seats()) - u32::from(rows.low);
-        let at = turn * lows + u32::from(k - rows.low);
+        let at = attempt * lows + u32::from(k - rows.low);
         let span = table.spans[at as usize];
         (span.some, part(&table.moves, span.first, span.end))
     }

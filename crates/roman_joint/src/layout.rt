@@ -1,15 +1,15 @@
 //! How the numbers of pairs split into rows and lanes.
 ghost use Rattle.std.specs.Prelude.{◌≡◌, ◌≢◌, ℕ, ◌/◌, ◌<◌, ◌≤◌, ltb, if◌then◌else◌, true};
 ghost use Rattle.roman_lanes.specs.Rows.{is_on};
-ghost use Rattle.roman_joint.specs.Rows.{lane_has_state, AreRowsOf};
+ghost use Rattle.roman_joint.specs.Rows.{lane_has_state, IsLayoutOf};
 
-use crate::seat::PLACES;
+use roman_model::PLACES;
 use roman_radix::Shape;
 
 /// How the numbers of pairs split into rows and lanes: the states of the last services give a pair's
 /// lane, and the other states give its row.
 #[derive(Clone, Copy, Debug)]
-pub(crate) struct Rows {
+pub(crate) struct Layout {
     /// The first service within the lanes.
     pub(crate) low: u8,
     /// The first of a band's own services.
@@ -37,8 +37,8 @@ pub(crate) struct Rows {
 
 /// Returns how the numbers of a shape's pairs split.
 #[tactic(auto, using(crate::proofs::LeadLemmas::stride_positive, crate::proofs::SplitLemmas::size_positive))]
-pub(crate) fn rows_of(shape: &Shape) -> Rows
-    ensures { AreRowsOf shape.now result }
+pub(crate) fn rows_of(shape: &Shape) -> Layout
+    ensures { IsLayoutOf shape.now result }
 {
     shape.known(); // no size is 0
     let low = shape.low();
@@ -54,7 +54,7 @@ pub(crate) fn rows_of(shape: &Shape) -> Rows
         sizes[k as usize] = size;
         firsts[k as usize] = first_lanes(stride, size);
     }
-    Rows {
+    Layout {
         low,
         mid,
         band,

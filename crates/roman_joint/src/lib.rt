@@ -8,6 +8,7 @@
 //! (`specs/NamedSys`), and its answers as those of the arena over the numbers of that system's pairs.
 #![tactic(auto)]
 
+mod attempt;
 mod band;
 mod error;
 mod fine;
@@ -20,15 +21,14 @@ mod moving;
 mod numbered;
 mod outcomes;
 mod row;
-mod runs;
 mod seat;
 mod seats;
+mod shifts;
 mod states;
+mod stripes;
 mod tables;
 mod target_view;
-mod turn;
 mod walk;
-mod ways;
 mod words;
 
 pub use error::{JointError, SeatError};

@@ -3,7 +3,8 @@ ghost use Rattle.std.specs.Prelude.{◌≡◌, ℕ, ◌+◌, ◌*◌, ◌^◌, �
 ghost use Rattle.roman_joint.specs.NamedSys.{system_of};
 ghost use Rattle.roman_joint.specs.Rows.{IsRow};
 ghost use Rattle.roman_joint.specs.Bands.{mid_in};
-ghost use Rattle.roman_joint.specs.Marks.{IsMarked, Grows, Marks, IsArrival, IsMoved, IsBeforeSeat, IsBeforeTurn, IsBeforeEnv, IsBeforeAction, seat_steps, turn_steps, env_steps, action_steps};
+ghost use Rattle.roman_joint.specs.Marks.{IsMarked, Grows, Marks, IsArrival, IsMoved, IsBeforeSeat, IsBeforeTarget, IsBeforeEnv, IsBeforeAction, seat_steps, target_steps, env_steps, action_steps};
+ghost use Rattle.roman_joint.specs.Pairs.{joint_actions};
 
 use crate::joint::Joint;
 use crate::row::Row;
@@ -72,7 +73,8 @@ fn mark_seat<L: Ledger>(by: &Arrival<'_>, marks: &mut [u64], base: u64, k: u8, s
     requires base { base < 2 ^ 50 }
     requires seat { k < mid_in (system_of by.now.joint.now) }
     ensures { let s = system_of by.now.joint.now in
-        Marks (IsBeforeSeat s by.now.row.now by.now.action by.now.env base k) (seat_steps s by.now.row.now by.now.action by.now.env k) marks.old marks.new steps.old steps.new }
+        Marks (IsBeforeSeat s by.now.row.now by.now.action by.now.env base k)
+        (seat_steps s by.now.row.now by.now.action by.now.env k) marks.old marks.new steps.old steps.new }
 {
     let rows = by.joint.layout();
     let own = by.row.states[k as usize];
@@ -87,11 +89,12 @@ fn mark_seat<L: Ledger>(by: &Arrival<'_>, marks: &mut [u64], base: u64, k: u8, s
 /// Marks the bands at the target's state `t` from which the action leads to the row's band. For a seat
 /// that isn't before the band's own, that is the band in which the seats before the band's own have
 /// the same states.
-#[tactic(auto, using(crate::proofs::GoodLemmas::turn_fits))]
-fn mark_turn<L: Ledger>(by: &Arrival<'_>, marks: &mut [u64], t: u8, steps: &mut Steps<L>)
+#[tactic(auto, using(crate::proofs::GoodLemmas::target_move_fits))]
+fn mark_target<L: Ledger>(by: &Arrival<'_>, marks: &mut [u64], t: u8, steps: &mut Steps<L>)
     requires { IsArrival by.now }
     ensures { let s = system_of by.now.joint.now in
-        Marks (IsBeforeTurn s by.now.row.now by.now.action by.now.env t) (turn_steps s by.now.row.now by.now.action by.now.env) marks.old marks.new steps.old steps.new }
+        Marks (IsBeforeTarget s by.now.row.now by.now.action by.now.env t)
+        (target_steps s by.now.row.now by.now.action by.now.env) marks.old marks.new steps.old steps.new }
 {
     let rows = by.joint.layout();
     let base = times(t, rows.target_rows) + times(by.env, rows.env_rows) + u64::from(by.row.part);
@@ -105,12 +108,13 @@ fn mark_turn<L: Ledger>(by: &Arrival<'_>, marks: &mut [u64], t: u8, steps: &mut 
 fn mark_env<L: Ledger>(by: &Arrival<'_>, marks: &mut [u64], steps: &mut Steps<L>)
     requires { IsArrival by.now }
     ensures { let s = system_of by.now.joint.now in
-        Marks (IsBeforeEnv s by.now.row.now by.now.action by.now.env) (env_steps s by.now.row.now by.now.action by.now.env) marks.old marks.new steps.old steps.new }
+        Marks (IsBeforeEnv s by.now.row.now by.now.action by.now.env)
+        (env_steps s by.now.row.now by.now.action by.now.env) marks.old marks.new steps.old steps.new }
 {
     by.joint.known(); // the target is over the environment
     let targets = by.joint.target().into(by.row.target, by.env, by.action);
     for t in targets {
-        mark_turn(by, marks, *t, steps);
+        mark_target(by, marks, *t, steps);
     }
 }
 
@@ -123,7 +127,7 @@ pub(crate) fn mark_action<L: Ledger>(
     steps: &mut Steps<L>,
 )
     requires row { (x : ℕ) × IsRow (system_of joint.now) x row.now }
-    requires action { a < (system_of joint.now).env.actions }
+    requires action { a < joint_actions joint.now }
     ensures { let s = system_of joint.now in
         Marks (IsBeforeAction s row.now a) (action_steps s row.now a) marks.old marks.new steps.old steps.new }
 {

@@ -1,13 +1,13 @@
 //! Moves of services within the lanes. For each such service, each action and each state of the
-//! environment, the table has the lanes from which the behaviour has a step, grouped by the way in
-//! which they move. Moves don't depend on whether a service is frozen.
+//! environment, the table has the lanes from which the behaviour has a step, grouped by how far
+//! they move. Moves don't depend on whether a service is frozen.
 ghost use Rattle.std.specs.Prelude.{◌≡◌, ◌+◌, ◌-◌, ◌*◌, ◌<◌, ◌≤◌, ◌++◌, ◌∷◌, [], ◌==◌, if◌then◌else◌, length, slice_index, slice_range, vec_len, vec_capacity, IfOk};
-ghost use Rattle.roman_joint.specs.Rows.{AreRowsOf};
-ghost use Rattle.roman_joint.specs.Moves.{lane_moves_from, system_in, AreSeatsIn, SuitsWays, SuitsEnv, HoldsTurns, HoldsMoves, HasPlaces, IsAdded};
+ghost use Rattle.roman_joint.specs.Rows.{IsLayoutOf};
+ghost use Rattle.roman_joint.specs.Moves.{lane_moves_from, move_by, system_in, AreSeatsIn, SuitsShifts, SuitsEnv, HoldsColumns, HoldsMoves, HasPlaces, IsAdded};
 
-use crate::layout::Rows;
+use crate::layout::Layout;
 use crate::seat::Parts;
-use crate::ways::{Ways, ways_of};
+use crate::shifts::{Shifts, shifts_of};
 use roman_model::MAX_SERVICES;
 use roman_parts::Behaviour;
 use roman_radix::Shape;
@@ -22,7 +22,7 @@ const MAX_SPANS: u32 = MAX_SERVICES as u32;
 /// has at most one move.
 const MAX_MOVES: u32 = 2 * 64 + MAX_SPANS;
 
-/// Lanes from which a service moves in the same way: lane l moves to lane `l + to - from`.
+/// Lanes from which a service moves equally far: lane l moves to lane `l + to - from`.
 #[derive(Clone, Copy, Debug)]
 pub(crate) struct Move {
     pub(crate) lanes: u64,
@@ -59,12 +59,12 @@ pub(crate) fn part(moves: &[Move], first: u32, end: u32) -> &[Move]
     &moves[first as usize..end as usize]
 }
 
-/// Adds the move of a way, if some lane moves in that way.
-fn push_way(moves: &mut Vec<Move>, lanes: u64, j: u8, last: u8, stride: u32)
+/// Adds the move of a shift, if some lane moves by it.
+fn push_shift(moves: &mut Vec<Move>, lanes: u64, j: u8, last: u8, stride: u32)
     requires room { vec_len moves.old < vec_capacity moves.old }
     requires small { last * stride < 64 }
-    requires way { j ≤ last + last }
-    ensures moves { moves.new.items ≡ moves.old.items ++ (if lanes == 0 then [] else record { lanes = lanes; from = (last - j) * stride; to = (j - last) * stride } ∷ []) }
+    requires shift { j ≤ last + last }
+    ensures moves { moves.new.items ≡ moves.old.items ++ (if lanes == 0 then [] else move_by lanes last stride j ∷ []) }
     ensures capacity { vec_capacity moves.new ≡ vec_capacity moves.old }
 {
     if lanes == 0 {
@@ -77,9 +77,9 @@ fn push_way(moves: &mut Vec<Move>, lanes: u64, j: u8, last: u8, stride: u32)
     });
 }
 
-/// Adds the moves of all ways.
-#[tactic(auto, using(crate::proofs::MoveLemmas::way_steps))]
-fn push_ways(moves: &mut Vec<Move>, lanes: &[u64], last: u8, stride: u32)
+/// Adds the moves of all shifts.
+#[tactic(auto, using(crate::proofs::MoveLemmas::shift_steps))]
+fn push_shifts(moves: &mut Vec<Move>, lanes: &[u64], last: u8, stride: u32)
     requires room { vec_len moves.old + last + last < vec_capacity moves.old }
     requires small { last * stride < 64 }
     requires few { last < 64 }
@@ -88,7 +88,7 @@ fn push_ways(moves: &mut Vec<Move>, lanes: &[u64], last: u8, stride: u32)
     ensures capacity { vec_capacity moves.new ≡ vec_capacity moves.old }
 {
     for j in 0..last + last + 1 {
-        push_way(moves, lanes[j as usize], j, last, stride);
+        push_shift(moves, lanes[j as usize], j, last, stride);
     }
 }
 
@@ -102,9 +102,9 @@ impl Moves {
         ensures spans { IfOk result (λ moves. vec_capacity moves.spans ≡ envs * actions * 32) }
         ensures moves { IfOk result (λ moves. vec_capacity moves.moves ≡ envs * actions * 160) }
     {
-        let turns = envs * actions;
-        let spans = Vec::with_capacity(alloc, (turns * MAX_SPANS) as usize)?;
-        let moves = Vec::with_capacity(alloc, (turns * MAX_MOVES) as usize)?;
+        let columns = envs * actions;
+        let spans = Vec::with_capacity(alloc, (columns * MAX_SPANS) as usize)?;
+        let moves = Vec::with_capacity(alloc, (columns * MAX_MOVES) as usize)?;
         Ok(Moves {
             envs,
             actions,
@@ -114,37 +114,42 @@ impl Moves {
     }
 
     /// Adds the moves of a service on an action in a state of the environment.
-    #[tactic(auto, using(crate::proofs::GoodLemmas::state_below, crate::proofs::MoveLemmas::moves_made, crate::proofs::MoveLemmas::ways_few, crate::proofs::SplitLemmas::size_positive))]
-    fn add(&mut self, shape: &Shape, rows: &Rows, behaviour: &Behaviour, k: u8, e: u8, a: u8)
-        requires ways { SuitsWays shape.now rows.now k behaviour.now e a }
+    #[tactic(auto, using(crate::proofs::GoodLemmas::state_below, crate::proofs::MoveLemmas::moves_made, crate::proofs::MoveLemmas::shifts_few, crate::proofs::SplitLemmas::size_positive))]
+    fn add(&mut self, shape: &Shape, rows: &Layout, behaviour: &Behaviour, k: u8, e: u8, a: u8)
+        requires shifts { SuitsShifts shape.now rows.now k behaviour.now e a }
         requires room { HasPlaces (2 * slice_index shape.now.seats k - 1) self.old }
         ensures added { IsAdded shape.now k behaviour.now.beh e a self.old self.new }
     {
-        let ways = ways_of(shape, rows, behaviour, k, e, a);
+        let shifts = shifts_of(shape, rows, behaviour, k, e, a);
         let first = self.moves.len() as u32;
         let last = rows.sizes[k as usize] - 1;
-        push_ways(&mut self.moves, &ways.lanes, last, rows.strides[k as usize]);
+        push_shifts(
+            &mut self.moves,
+            &shifts.lanes,
+            last,
+            rows.strides[k as usize],
+        );
         let end = self.moves.len() as u32;
         self.spans.push_reserved(Span {
-            some: ways.some,
+            some: shifts.some,
             first,
             end,
         });
     }
 
-    /// Adds the moves of all services within the lanes on the next action, in its state of the
-    /// environment.
-    fn fill_turn(&mut self, parts: &Parts<'_>, shape: &Shape, rows: &Rows, turn: u32)
+    /// Adds the moves of all services within the lanes in the next column: on an action, in a state of
+    /// the environment.
+    fn fill_column(&mut self, parts: &Parts<'_>, shape: &Shape, rows: &Layout, column: u32)
         requires seats { AreSeatsIn parts.now shape.now }
-        requires rows { AreRowsOf shape.now rows.now }
+        requires rows { IsLayoutOf shape.now rows.now }
         requires suits { SuitsEnv parts.now.environment.now.env self.old }
-        requires turn { turn < parts.now.environment.now.env.states * parts.now.environment.now.env.actions }
-        requires turns { HoldsTurns (system_in parts.now) turn self.old }
+        requires column { column < parts.now.environment.now.env.states * parts.now.environment.now.env.actions }
+        requires columns { HoldsColumns (system_in parts.now) column self.old }
         ensures suits { SuitsEnv parts.now.environment.now.env self.new }
-        ensures turns { HoldsTurns (system_in parts.now) (turn + 1) self.new }
+        ensures columns { HoldsColumns (system_in parts.now) (column + 1) self.new }
     {
-        let e = (turn / self.actions) as u8;
-        let a = (turn % self.actions) as u8;
+        let e = (column / self.actions) as u8;
+        let a = (column % self.actions) as u8;
         let seats = parts.seats;
         let catalogue = parts.catalogue;
         for k in rows.low..seats.len() as u8 {
@@ -154,16 +159,16 @@ impl Moves {
     }
 
     /// Replaces all moves by those of all services within the lanes.
-    pub(crate) fn fill(&mut self, parts: &Parts<'_>, shape: &Shape, rows: &Rows)
+    pub(crate) fn fill(&mut self, parts: &Parts<'_>, shape: &Shape, rows: &Layout)
         requires seats { AreSeatsIn parts.now shape.now }
-        requires rows { AreRowsOf shape.now rows.now }
+        requires rows { IsLayoutOf shape.now rows.now }
         requires suits { SuitsEnv parts.now.environment.now.env self.old }
         ensures { HoldsMoves (system_in parts.now) self.new }
     {
         self.spans.clear();
         self.moves.clear();
-        for turn in 0..self.envs * self.actions {
-            self.fill_turn(parts, shape, rows, turn);
+        for column in 0..self.envs * self.actions {
+            self.fill_column(parts, shape, rows, column);
         }
     }
 }
@@ -174,10 +179,10 @@ pub(crate) fn moves_of(
     alloc: Global,
     parts: &Parts<'_>,
     shape: &Shape,
-    rows: &Rows,
+    rows: &Layout,
 ) -> Result<Moves, AllocError>
     requires seats { AreSeatsIn parts.now shape.now }
-    requires rows { AreRowsOf shape.now rows.now }
+    requires rows { IsLayoutOf shape.now rows.now }
     ensures { IfOk result (HoldsMoves (system_in parts.now)) }
 {
     let envs = parts.environment.states().len();

@@ -24,7 +24,8 @@ impl Change for Moving<'_> {
 
     ghost suits = { λ change many. SuitsMoving change.alive.now change.moves.now many };
 
-    ghost makes = { λ change i old new. LosesMoving change.some change.moves.now (slice_index change.alive.now i) old new };
+    ghost makes = { λ change i old new.
+        LosesMoving change.some change.moves.now (slice_index change.alive.now i) old new };
 }
 
 impl<const N: usize> ChangeOf<N> for Moving<'_> {
@@ -32,7 +33,8 @@ impl<const N: usize> ChangeOf<N> for Moving<'_> {
     fn changed(&self, words: Simd<u64, N>, at: usize) -> Simd<u64, N>
         requires { (many : ℕ) × (at + N ≤ many) × SuitsMoving self.now.alive.now self.now.moves.now many }
         ensures long { length result ≡ N }
-        ensures each { (i : ℕ) → i < N → LosesMoving self.now.some self.now.moves.now (slice_index self.now.alive.now (at + i)) (slice_index words.entry i) (slice_index result i) }
+        ensures each { (i : ℕ) → i < N → LosesMoving self.now.some self.now.moves.now
+            (slice_index self.now.alive.now (at + i)) (slice_index words.entry i) (slice_index result i) }
     {
         let alive = load::<N>(self.alive, at);
         without(words, each_moves_alive(alive, self.moves, self.some))
@@ -45,7 +47,8 @@ pub(crate) fn clear_moving(left: &mut [u64], alive: &[u64], moves: &[Move], some
     requires alive { length left.old ≤ length alive.now }
     requires moves { (move : Move) → IsIn move moves.now → (move.from < 64) × (move.to < 64) }
     ensures long { length left.new ≡ length left.old }
-    ensures each { (i : ℕ) → i < length left.old → LosesMoving some moves.now (slice_index alive.now i) (slice_index left.old i) (slice_index left.new i) }
+    ensures each { (i : ℕ) → i < length left.old → LosesMoving some moves.now (slice_index alive.now i)
+        (slice_index left.old i) (slice_index left.new i) }
 {
     change_each(&Moving { alive, moves, some }, left);
 }

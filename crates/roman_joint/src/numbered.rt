@@ -1,27 +1,28 @@
 //! The interface [`Rules`] of a joint, for algorithms over the numbers of its pairs.
+ghost use Rattle.roman_joint.specs.Pairs.{arena_of};
 
-use crate::band::{alive_each, clear_served, served_by};
+use crate::attempt::{Attempt, target_move_of};
+use crate::band::{alive_each, clear_seat, clear_served, served_by};
 use crate::fine::{front_rests, own_rests, rests_within};
 use crate::good::{alive_on, good_on, serving};
 use crate::joint::Joint;
 use crate::marks::mark_action;
 use crate::row::Row;
-use crate::runs::{BAND, clear};
 use crate::states::row_states;
-use crate::turn::{Turn, target_move_of};
+use crate::stripes::clear;
 use crate::words::{less, with_lanes};
 use roman_io::Steps;
-use roman_rules::{Finding, Rules, SeatSet};
+use roman_rules::{BAND, Finding, Rules, SeatSet};
 use std::sync::ledger::Ledger;
 
 #[tactic(auto, using(crate::proofs::ArenaFacts::pair_count))]
 impl Rules for Joint {
-    ghost use Rattle.roman_model.specs.Numbers.{sizes_of, numbered};
+    ghost use Rattle.roman_model.specs.Numbers.{sizes_of};
     ghost use Rattle.roman_joint.specs.NamedSys.{system_of};
     ghost use Rattle.roman_joint.specs.Rows.{lanes_in, HasResting, IsRow};
     ghost use Rattle.roman_joint.specs.Bands.{mid_in, band_in};
 
-    ghost arena = { λ joint. numbered (system_of joint) };
+    ghost arena = { λ joint. arena_of joint };
 
     type Row = Row;
 
@@ -142,16 +143,16 @@ impl Rules for Joint {
         let Some(to) = target_move_of(self, row, a) else {
             return SeatSet::EMPTY;
         };
-        let turn = Turn {
+        let attempt = Attempt {
             words,
             row,
             action: a,
             to,
         };
-        let alive = alive_on(self, &turn);
+        let alive = alive_on(self, &attempt);
         let mut mask = SeatSet::EMPTY;
         for k in 0..serving(self, alive) {
-            let good = good_on(self, &turn, alive, k);
+            let good = good_on(self, &attempt, alive, k);
             mask = mask.with(k, (good >> lane) & 1 == 1);
         }
         mask
@@ -163,19 +164,52 @@ impl Rules for Joint {
         let Some(to) = target_move_of(self, row, a) else {
             return 0;
         };
-        let turn = Turn {
+        let attempt = Attempt {
             words,
             row,
             action: a,
             to,
         };
         let mut alive = [0; BAND];
-        alive_each(self, &turn, &mut alive);
+        alive_each(self, &attempt, &mut alive);
         let mut count = 0;
         for k in 0..self.seats() {
-            count += served_by(self, &turn, &alive, k);
+            count += served_by(self, &attempt, &alive, k);
         }
         count
+    }
+
+    #[tactic(auto, using(crate::proofs::ArenaFacts::pair_count))]
+    fn good(&self, row: &Row, words: &[u64], a: u8, k: u8) -> u64 {
+        self.known(); // outcomes need an allowed action and a ready seat
+        let Some(to) = target_move_of(self, row, a) else {
+            return 0;
+        };
+        let attempt = Attempt {
+            words,
+            row,
+            action: a,
+            to,
+        };
+        let alive = alive_on(self, &attempt);
+        good_on(self, &attempt, alive, k)
+    }
+
+    #[tactic(auto, using(crate::proofs::ArenaFacts::pair_count, roman_radix::proofs::CallerLemmas::lanes_few))]
+    fn clear_good(&self, row: &Row, words: &[u64], a: u8, k: u8, left: &mut [u64]) {
+        self.known(); // outcomes need an allowed action and a ready seat, no size is 0
+        let Some(to) = target_move_of(self, row, a) else {
+            return;
+        };
+        let attempt = Attempt {
+            words,
+            row,
+            action: a,
+            to,
+        };
+        let mut alive = [0; BAND];
+        alive_each(self, &attempt, &mut alive);
+        clear_seat(self, &attempt, &alive, k, left);
     }
 
     fn unserved(&self, row: &Row, words: &[u64], a: u8, wanted: u64) -> u64 {
@@ -183,19 +217,19 @@ impl Rules for Joint {
         let Some(to) = target_move_of(self, row, a) else {
             return 0;
         };
-        let turn = Turn {
+        let attempt = Attempt {
             words,
             row,
             action: a,
             to,
         };
-        let alive = alive_on(self, &turn);
+        let alive = alive_on(self, &attempt);
         let mut left = wanted;
         for k in 0..serving(self, alive) {
             if left == 0 {
                 return 0;
             }
-            let good = good_on(self, &turn, alive, k);
+            let good = good_on(self, &attempt, alive, k);
             left = less(left, good);
         }
         left
@@ -211,13 +245,13 @@ impl Rules for Joint {
             clear(left);
             return;
         };
-        let turn = Turn {
+        let attempt = Attempt {
             words,
             row,
             action: a,
             to,
         };
-        clear_served(self, &turn, left);
+        clear_served(self, &attempt, left);
     }
 
     fn mark_before<L: Ledger>(&self, row: &Row, marks: &mut [u64], steps: &mut Steps<L>) {

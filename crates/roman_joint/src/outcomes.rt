@@ -2,7 +2,7 @@
 ghost use Rattle.std.specs.Prelude.{◌≡◌, ℕ, ◌+◌, ◌*◌, ◌^◌, ◌<◌, Bool, not, All, IfSome, option_map};
 ghost use Rattle.std.specs.List.{find};
 ghost use Rattle.roman_model.specs.Lists.{IsIn};
-ghost use Rattle.roman_joint.specs.Outcomes.{outcome_number, outcome_numbers};
+ghost use Rattle.roman_joint.specs.Outcomes.{outcome_number, outcome_numbers, AllOutcomes};
 
 /// The pairs to which an action that is delegated to a service can lead. For each state e of `envs`
 /// and each state b of `states` it is the pair with the number `base + e * env_stride + b * stride`.
@@ -34,11 +34,12 @@ impl Outcomes<'_> {
     /// the environment's state and then by the service's.
     pub(crate) fn first_gone<A: Fn(u32) -> bool>(&self, alive: &A) -> Option<(u8, u8)>
         requires envs { All (λ e. self.now.base + e * self.now.env_stride < 2 ^ 32) self.now.envs.now }
-        requires fits { All (λ e. All (λ b. outcome_number self.now e b < 2 ^ 32) self.now.states.now) self.now.envs.now }
-        requires callable { All (λ e. All (λ b. A.pre alive.now (outcome_number self.now e b)) self.now.states.now) self.now.envs.now }
+        requires fits { AllOutcomes self.now (λ e b. outcome_number self.now e b < 2 ^ 32) }
+        requires callable { AllOutcomes self.now (λ e b. A.pre alive.now (outcome_number self.now e b)) }
         ensures among { IfSome result (λ x. IsIn x.0 self.now.envs.now × IsIn x.1 self.now.states.now) }
         ensures first { let number = outcome_number self.now in
-            (gone : ℕ → Bool) → All (λ e. All (λ b. (r : Bool) → A.post alive.now (number e b) r → r ≡ not (gone (number e b))) self.now.states.now) self.now.envs.now
+            (gone : ℕ → Bool)
+            → AllOutcomes self.now (λ e b. (r : Bool) → A.post alive.now (number e b) r → r ≡ not (gone (number e b)))
             → option_map (λ x. number x.0 x.1) result ≡ find gone (outcome_numbers self.now) }
     {
         for env in self.envs {
@@ -53,7 +54,7 @@ impl Outcomes<'_> {
 
 /// Returns the first of a service's states whose pair isn't alive. The pair with state b has the
 /// number `row + b * stride`.
-#[tactic(auto, using(crate::proofs::Finds::in_at))]
+#[tactic(auto, using(roman_model::proofs::CallerLemmas::in_at))]
 fn state_gone<A: Fn(u32) -> bool>(alive: &A, row: u32, states: &[u8], stride: u32) -> Option<u8>
     requires fits { All (λ b. row + b * stride < 2 ^ 32) states.now }
     requires callable { All (λ b. A.pre alive.now (row + b * stride)) states.now }

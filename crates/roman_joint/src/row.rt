@@ -1,6 +1,6 @@
 //! Rows of pairs.
 
-use crate::seat::PLACES;
+use roman_model::PLACES;
 
 /// The facts of a row that are looked up once: plain data, valid for the joint that made it until its
 /// services change. At all pairs of a row the target, the environment and each service before the

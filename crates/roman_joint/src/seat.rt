@@ -1,10 +1,6 @@
 //! The services of a system, and its parts, borrowed together.
 
-use roman_model::MAX_SERVICES;
 use roman_parts::{Behaviour, Environment, Name, Target};
-
-/// The number of services that a table has room for.
-pub(crate) const PLACES: usize = MAX_SERVICES as usize;
 
 /// A service: a named instance of a behaviour, with its place in a system.
 #[derive(Clone, Copy, Debug, PartialEq, Eq)]

@@ -7,8 +7,8 @@ ghost use Rattle.roman_parts.specs.Named.{NamedEnv};
 ghost use Rattle.roman_joint.specs.NamedSys.{beh_at, system_of, cells, IsOverEnv, TargetIsOverEnv};
 ghost use Rattle.roman_joint.specs.Parts.{named_in};
 
-use crate::seat::{PLACES, Parts, Seat};
-use roman_model::MAX_SERVICES;
+use crate::seat::{Parts, Seat};
+use roman_model::{MAX_SERVICES, PLACES};
 use roman_parts::Behaviour;
 use roman_radix::Shape;
 use std::alloc::{AllocError, Global};
@@ -27,7 +27,8 @@ pub(crate) fn copy_seats(alloc: Global, seats: &[Seat]) -> Result<Vec<Seat>, All
 pub(crate) fn sizes_of_seats(catalogue: &[Behaviour], seats: &[Seat]) -> [u8; PLACES]
     requires few { length seats.now ≤ MAX_SERVICES }
     requires behaviours { All (λ seat. seat.behaviour < length catalogue.now) seats.now }
-    ensures sizes { take (length seats.now) result ≡ map (λ seat. (beh_at catalogue.now seat.behaviour).states) seats.now }
+    ensures sizes { take (length seats.now) result
+        ≡ map (λ seat. (beh_at catalogue.now seat.behaviour).states) seats.now }
     ensures known { (environment : NamedEnv) → All (IsOverEnv environment) catalogue.now
         → All (λ seat. IsBeh environment.env (beh_at catalogue.now seat.behaviour)) seats.now }
 {

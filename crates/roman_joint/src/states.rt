@@ -1,5 +1,5 @@
 //! The states of services: present, next and predecessor states, and the states in which they may rest.
-ghost use Rattle.std.specs.Prelude.{◌≡◌, ℕ, ◌/◌, ◌%◌, ◌<◌, ◌≤◌, false, length, slice_get, slice_index, All};
+ghost use Rattle.std.specs.Prelude.{◌≡◌, ℕ, ◌/◌, ◌%◌, ◌<◌, ◌≤◌, false, length, slice_index, All};
 ghost use Rattle.roman_model.specs.SystemArena.{seat_next};
 ghost use Rattle.roman_model.specs.Numbers.{sizes_of};
 ghost use Rattle.roman_radix.specs.Radix.{stride_of};
@@ -8,11 +8,13 @@ ghost use Rattle.roman_lanes.specs.Rows.{is_on};
 ghost use Rattle.roman_joint.specs.NamedSys.{system_of};
 ghost use Rattle.roman_joint.specs.Backward.{seat_prev};
 ghost use Rattle.roman_joint.specs.Behaviours.{IsServiceAt};
-ghost use Rattle.roman_joint.specs.Rows.{low_in, lane_has_state, lane_state_of, AreRowsOf, may_rest as may_rest_in};
+ghost use Rattle.roman_joint.specs.Rows.{low_in, lane_has_state, lane_state_of, IsLayoutOf, may_rest as may_rest_in};
+ghost use Rattle.roman_joint.specs.Pairs.{joint_seat, seat_states, joint_actions};
 
 use crate::joint::Joint;
-use crate::layout::Rows;
-use crate::seat::{PLACES, Seat};
+use crate::layout::Layout;
+use crate::seat::Seat;
+use roman_model::PLACES;
 use roman_parts::Behaviour;
 use roman_radix::Shape;
 
@@ -33,7 +35,8 @@ pub(crate) fn row_state(joint: &Joint, k: u8, x: u32) -> u8
 /// a table.
 #[tactic(auto, using(crate::proofs::GoodLemmas::table_steps))]
 pub(crate) fn row_states(joint: &Joint, x: u32) -> [u8; PLACES]
-    ensures { (k : ℕ) → k < low_in (system_of joint.now) → slice_index result k ≡ lane_state_of (row_sizes (sizes_of (system_of joint.now))) k x }
+    ensures { (k : ℕ) → k < low_in (system_of joint.now) → slice_index result k
+        ≡ lane_state_of (row_sizes (sizes_of (system_of joint.now))) k x }
 {
     let rows = joint.layout();
     let mut states = [0; PLACES];
@@ -59,11 +62,11 @@ pub(crate) fn service(joint: &Joint, k: u8) -> (&Seat, &Behaviour)
 #[inline(always)]
 pub(crate) fn next_states<'a>(joint: &'a Joint, k: u8, b: u8, e: u8, a: u8) -> &'a [u8]
     requires seat { k < length joint.now.seats }
-    requires state { b < slice_index (sizes_of (system_of joint.now)).seats k }
+    requires state { b < seat_states joint.now k }
     requires env { e < (system_of joint.now).env.states }
-    requires action { a < (system_of joint.now).env.actions }
-    ensures next { result.now ≡ seat_next (slice_get (system_of joint.now).seats k) b e a }
-    ensures below { All (λ c. c < slice_index (sizes_of (system_of joint.now)).seats k) result.now }
+    requires action { a < joint_actions joint.now }
+    ensures next { result.now ≡ seat_next (joint_seat joint.now k) b e a }
+    ensures below { All (λ c. c < seat_states joint.now k) result.now }
 {
     let (seat, behaviour) = service(joint, k);
     if seat.frozen {
@@ -75,11 +78,11 @@ pub(crate) fn next_states<'a>(joint: &'a Joint, k: u8, b: u8, e: u8, a: u8) -> &
 /// Returns the states from which a service goes to state `b`. Returns none if it is frozen.
 pub(crate) fn prev_states<'a>(joint: &'a Joint, k: u8, b: u8, e: u8, a: u8) -> &'a [u8]
     requires seat { k < length joint.now.seats }
-    requires state { b < slice_index (sizes_of (system_of joint.now)).seats k }
+    requires state { b < seat_states joint.now k }
     requires env { e < (system_of joint.now).env.states }
-    requires action { a < (system_of joint.now).env.actions }
-    ensures prev { result.now ≡ seat_prev (slice_get (system_of joint.now).seats k) b e a }
-    ensures below { All (λ c. c < slice_index (sizes_of (system_of joint.now)).seats k) result.now }
+    requires action { a < joint_actions joint.now }
+    ensures prev { result.now ≡ seat_prev (joint_seat joint.now k) b e a }
+    ensures below { All (λ c. c < seat_states joint.now k) result.now }
 {
     let (seat, behaviour) = service(joint, k);
     if seat.frozen {
@@ -92,8 +95,8 @@ pub(crate) fn prev_states<'a>(joint: &'a Joint, k: u8, b: u8, e: u8, a: u8) -> &
 #[tactic(auto, using(crate::proofs::BehaviourLemmas::seat_read))]
 pub(crate) fn may_rest(joint: &Joint, k: u8, b: u8) -> bool
     requires seat { k < length joint.now.seats }
-    requires state { b < slice_index (sizes_of (system_of joint.now)).seats k }
-    ensures { result ≡ may_rest_in (slice_get (system_of joint.now).seats k) b }
+    requires state { b < seat_states joint.now k }
+    ensures { result ≡ may_rest_in (joint_seat joint.now k) b }
 {
     let (seat, behaviour) = service(joint, k);
     if !seat.rests {
@@ -104,12 +107,13 @@ pub(crate) fn may_rest(joint: &Joint, k: u8, b: u8) -> bool
 
 /// Returns the lanes in which a service within the lanes is in state `b`.
 #[tactic(auto, using(crate::proofs::GoodLemmas::begins, crate::proofs::GoodLemmas::off_rows))]
-pub(crate) fn state_lanes(shape: &Shape, rows: &Rows, k: u8, b: u8) -> u64
-    requires rows { AreRowsOf shape.now rows.now }
+pub(crate) fn state_lanes(shape: &Shape, rows: &Layout, k: u8, b: u8) -> u64
+    requires rows { IsLayoutOf shape.now rows.now }
     requires within { low_of shape.now.seats ≤ k }
     requires seat { k < length shape.now.seats }
     requires state { b < slice_index shape.now.seats k }
-    ensures each { (lane : ℕ) → lane < lanes_of shape.now.seats → is_on result lane ≡ lane_has_state (stride_of shape.now k) (slice_index shape.now.seats k) b lane }
+    ensures each { (lane : ℕ) → lane < lanes_of shape.now.seats → is_on result lane
+        ≡ lane_has_state (stride_of shape.now k) (slice_index shape.now.seats k) b lane }
     ensures rest { (lane : ℕ) → lanes_of shape.now.seats ≤ lane → is_on result lane ≡ false }
 {
     let from = u32::from(b) * rows.strides[k as usize];

@@ -4,7 +4,7 @@ ghost use Rattle.roman_joint.specs.NamedSys.{TargetIsOverEnv};
 ghost use Rattle.roman_joint.specs.Moves.{AreSeatsIn};
 ghost use Rattle.roman_joint.specs.Layout.{AreTables};
 
-use crate::layout::{Rows, rows_of};
+use crate::layout::{Layout, rows_of};
 use crate::moves::{Moves, moves_of};
 use crate::seat::{Parts, Seat};
 use crate::seats::copy_seats;
@@ -18,7 +18,7 @@ pub(crate) struct Tables {
     /// The services, with room for the greatest number of them.
     pub(crate) places: Vec<Seat>,
     pub(crate) target_views: Vec<TargetView>,
-    pub(crate) rows: Rows,
+    pub(crate) rows: Layout,
     pub(crate) moves: Moves,
 }
 

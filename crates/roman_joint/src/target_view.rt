@@ -93,7 +93,8 @@ fn may_lead(environment: &Environment, target: &Target, t2: u8, e2: u8, a: u8) -
     requires target { t2 < target.now.beh.states }
     requires env { e2 < environment.now.env.states }
     requires action { a < environment.now.env.actions }
-    ensures { IsFalse result → (e : ℕ) → IsIn e (env_prev environment.now.env e2 a) → beh_prev target.now.beh t2 e a ≡ [] }
+    ensures { IsFalse result → (e : ℕ) → IsIn e (env_prev environment.now.env e2 a) → beh_prev target.now.beh t2 e a
+        ≡ [] }
 {
     for e in environment.prev(e2, a) {
         if !target.into(t2, *e, a).is_empty() {

@@ -14,7 +14,8 @@ use std::simd::prelude::*;
 pub(crate) fn rows_alive(words: &[u64], base: u32, states: &[u8], stride: u32, good: u64) -> u64
     requires { AreWithin base stride 1 (length words.now) states.now }
     ensures { (lane : ℕ) → is_on result lane
-        ≡ (is_on good lane && not (list_any (λ b. not (is_on (slice_index words.now (base + b * stride)) lane)) states.now)) }
+        ≡ (is_on good lane
+        && not (list_any (λ b. not (is_on (slice_index words.now (base + b * stride)) lane)) states.now)) }
 {
     let mut alive = good;
     for state in states {
@@ -28,7 +29,9 @@ pub(crate) fn rows_alive(words: &[u64], base: u32, states: &[u8], stride: u32, g
 pub(crate) fn all_alive(words: &[u64], rows: &Outcomes<'_>, good: u64) -> u64
     requires { SuitsRows rows.now 1 (length words.now) }
     ensures { (lane : ℕ) → is_on result lane
-        ≡ (is_on good lane && not (list_any (λ e. list_any (λ b. not (is_on (slice_index words.now (outcome_number rows.now e b)) lane)) rows.now.states.now) rows.now.envs.now)) }
+        ≡ (is_on good lane
+        && not (list_any (λ e. list_any (λ b. not (is_on (slice_index words.now
+        (outcome_number rows.now e b)) lane)) rows.now.states.now) rows.now.envs.now)) }
 {
     let mut alive = good;
     for env in rows.envs {
@@ -44,7 +47,8 @@ fn shifted<const N: usize>(words: Simd<u64, N>, from: u32, to: u32) -> Simd<u64,
     requires from { from < 64 }
     requires to { to < 64 }
     ensures long { length result ≡ N }
-    ensures each { (i lane : ℕ) → i < N → from ≤ lane → lane < 64 → lane + to - from < 64 → is_on (slice_index result i) lane ≡ is_on (slice_index words.entry i) (lane + to - from) }
+    ensures each { (i lane : ℕ) → i < N → from ≤ lane → lane < 64 → lane + to - from < 64 →
+        is_on (slice_index result i) lane ≡ is_on (slice_index words.entry i) (lane + to - from) }
 {
     if to >= from {
         return words >> Simd::<u64, N>::splat(u64::from(to - from));
@@ -57,7 +61,8 @@ fn shifted<const N: usize>(words: Simd<u64, N>, from: u32, to: u32) -> Simd<u64,
 #[inline(always)]
 fn unmoved<const N: usize>(lanes: u64, moved: Simd<u64, N>) -> Simd<u64, N>
     ensures long { length result ≡ N }
-    ensures each { (i lane : ℕ) → i < N → lane < 64 → is_on (slice_index result i) lane ≡ not (is_on lanes lane && not (is_on (slice_index moved.entry i) lane)) }
+    ensures each { (i lane : ℕ) → i < N → lane < 64 → is_on (slice_index result i) lane
+        ≡ not (is_on lanes lane && not (is_on (slice_index moved.entry i) lane)) }
 {
     Simd::<u64, N>::splat(!lanes) | moved
 }
@@ -72,13 +77,16 @@ pub(crate) fn each_moves_alive<const N: usize>(
 ) -> Simd<u64, N>
     requires { (move : Move) → IsIn move moves.now → (move.from < 64) × (move.to < 64) }
     ensures long { length result ≡ N }
-    ensures alive { (i lane : ℕ) → i < N → lane < 64 → ((move : Move) → IsIn move moves.now → is_on move.lanes lane ≡ true → (move.from ≤ lane) × (lane + move.to - move.from < 64)) →
-        is_on (slice_index result i) lane ≡ (is_on good lane && not (list_any (λ move. is_on move.lanes lane && not (is_on (slice_index alive.entry i) (lane + move.to - move.from))) moves.now)) }
+    ensures alive { (i lane : ℕ) → i < N → lane < 64 → ((move : Move) → IsIn move moves.now → is_on move.lanes lane
+        ≡ true → (move.from ≤ lane) × (lane + move.to - move.from < 64)) →
+        is_on (slice_index result i) lane ≡ (is_on good lane
+        && not (list_any (λ move. is_on move.lanes lane
+        && not (is_on (slice_index alive.entry i) (lane + move.to - move.from))) moves.now)) }
     ensures within { (i lane : ℕ) → i < N → is_on good lane ≡ false → is_on (slice_index result i) lane ≡ false }
 {
     let mut left = Simd::<u64, N>::splat(good);
-    for way in moves {
-        left &= unmoved(way.lanes, shifted(alive, way.from, way.to));
+    for step in moves {
+        left &= unmoved(step.lanes, shifted(alive, step.from, step.to));
     }
     left
 }
@@ -86,8 +94,10 @@ pub(crate) fn each_moves_alive<const N: usize>(
 /// Returns the lanes of `good` from which all moves lead to lanes of `alive`.
 pub(crate) fn moves_alive(alive: u64, moves: &[Move], good: u64) -> u64
     requires { (move : Move) → IsIn move moves.now → (move.from < 64) × (move.to < 64) }
-    ensures alive { (lane : ℕ) → lane < 64 → ((move : Move) → IsIn move moves.now → is_on move.lanes lane ≡ true → (move.from ≤ lane) × (lane + move.to - move.from < 64)) →
-        is_on result lane ≡ (is_on good lane && not (list_any (λ move. is_on move.lanes lane && not (is_on alive (lane + move.to - move.from))) moves.now)) }
+    ensures alive { (lane : ℕ) → lane < 64 → ((move : Move) → IsIn move moves.now → is_on move.lanes lane ≡ true →
+        (move.from ≤ lane) × (lane + move.to - move.from < 64)) →
+        is_on result lane ≡ (is_on good lane
+        && not (list_any (λ move. is_on move.lanes lane && not (is_on alive (lane + move.to - move.from))) moves.now)) }
     ensures within { (lane : ℕ) → is_on good lane ≡ false → is_on result lane ≡ false }
 {
     let mut words = [0];

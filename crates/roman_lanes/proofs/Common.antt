@@ -1,7 +1,7 @@
 -- What the proof pages of this crate cite from elsewhere, passed on from one place. Declares nothing.
-pub use Rattle.std.proofs.Common.{Fits, List, ap, arith, bit_and, bit_or, count_by, count_ones, eqb, false, get_or, length, map, not, slice_index, sym, take, true, w32, zero, ℕ, ◌%◌, ◌&&◌, ◌*◌, ◌+◌, ◌-◌, ◌/◌, ◌<◌, ◌==◌, ◌^◌, ◌||◌, ◌∙◌, ◌≡◌, ◌≢◌, ◌≤◌}
+pub use Rattle.std.proofs.Common.{Fits, List, ap, arith, bit_and, bit_or, cond, count_by, count_ones, eqb, false, get_or, length, map, not, slice_index, sym, take, true, w32, zero, ℕ, ◌%◌, ◌&&◌, ◌*◌, ◌+◌, ◌-◌, ◌/◌, ◌<◌, ◌==◌, ◌^◌, ◌||◌, ◌∙◌, ◌≡◌, ◌≢◌, ◌≤◌}
 pub use Rattle.std.proofs.Math.Seq.{take-add}
-pub use Rattle.std.proofs.lemmas.Bool.{cases_lt, eq-eqb}
+pub use Rattle.std.proofs.lemmas.Bool.{cases_eq, cases_lt, cond-false, cond-true, eq-eqb, ne_eqb}
 pub use Rattle.std.proofs.lemmas.List.{get_or-map, get_or_past, length-map, take_rest}
 pub use Rattle.std.proofs.lemmas.List.Sums.{count_by-le-length, sum_by-append, sum_by-take-drop}
 pub use Rattle.std.proofs.lemmas.Nat.{le_or_l, le_or_r}

@@ -1,6 +1,10 @@
 -- The lanes of words that are combined.
-use Rattle.roman_lanes.proofs.Common.{◌≡◌, ◌≢◌, ℕ, zero, ◌-◌, ◌*◌, ◌/◌, ◌%◌, ◌^◌, ◌<◌, ◌≤◌, true, false, not, ◌&&◌, ◌||◌, sym, ap, ◌∙◌, arith, eqb, bit_and, bit_at, bit_not, w64, cases_lt, eq-eqb, bit_at_and, bit_at_or, bit_at_not, bit_at-lt, bit_at-zero, bit_at_above, bit_at_ones, bit_at_ones_above, bit_at-pow_same, bit_at-pow_other, bit_at_set_same, bit_at_set_other, bit_at_clear_same, bit_at_clear_other, ones_shr, shr_and_one, is_on}
+use Rattle.roman_lanes.proofs.Common.{◌≡◌, ◌≢◌, ℕ, zero, ◌-◌, ◌*◌, ◌/◌, ◌%◌, ◌^◌, ◌<◌, ◌≤◌, true, false, not, ◌&&◌, ◌||◌, sym, ap, ◌∙◌, arith, eqb, bit_and, bit_at, bit_not, w64, cases_lt, eq-eqb, bit_at_and, bit_at_or, bit_at_not, bit_at-lt, bit_at-zero, bit_at_above, bit_at_ones, bit_at_ones_above, bit_at-pow_same, bit_at-pow_other, bit_at_set_same, bit_at_set_other, bit_at_clear_same, bit_at_clear_other, ones_shr, shr_and_one, is_on, cond, cases_eq, cond-true, cond-false, ne_eqb}
 use Rattle.std.specs.Prelude.{bit_or}
+
+pub bit_is : (word lane : ℕ) → bit_at word lane ≡ cond (is_on word lane) 1 0
+unfolding is_on
+bit_is word lane = grind (arith, bit_at-lt, cases_eq, cond-false, cond-true, eq-eqb, ne_eqb)
 
 pub on_zero : (i : ℕ) → is_on zero i ≡ false
 unfolding is_on

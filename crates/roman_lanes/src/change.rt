@@ -22,7 +22,8 @@ pub trait ChangeOf<const N: usize>: Change {
     fn changed(&self, words: Simd<u64, N>, at: usize) -> Simd<u64, N>
         requires { (many : ℕ) × (at + N ≤ many) × Self.suits self.now many }
         ensures long { length result ≡ N }
-        ensures each { (k : ℕ) → k < N → Self.makes self.now (at + k) (slice_index words.entry k) (slice_index result k) };
+        ensures each { (k : ℕ) → k < N → Self.makes self.now (at + k) (slice_index words.entry k)
+            (slice_index result k) };
 }
 
 /// Makes the change to the N words from `at` on.
@@ -77,7 +78,8 @@ pub fn change_each<C: ChangeOf<8> + ChangeOf<4> + ChangeOf<2> + ChangeOf<1>>(
 )
     requires { C.suits change.now (length words.old) }
     ensures long { length words.new ≡ length words.old }
-    ensures each { (i : ℕ) → i < length words.old → C.makes change.now i (slice_index words.old i) (slice_index words.new i) }
+    ensures each { (i : ℕ) → i < length words.old → C.makes change.now i (slice_index words.old i)
+        (slice_index words.new i) }
 {
     if words.len() == 1 {
         change_block::<1, C>(change, words, 0);

@@ -26,7 +26,8 @@ impl<const N: usize> ChangeOf<N> for Meeting<'_> {
     fn changed(&self, words: Simd<u64, N>, at: usize) -> Simd<u64, N>
         requires { (many : ℕ) × (at + N ≤ many) × (many ≤ length self.now.with.now) }
         ensures long { length result ≡ N }
-        ensures each { (k : ℕ) → k < N → slice_index result k ≡ bit_and (slice_index words.entry k) (slice_index self.now.with.now (at + k)) }
+        ensures each { (k : ℕ) → k < N → slice_index result k ≡ bit_and (slice_index words.entry k)
+            (slice_index self.now.with.now (at + k)) }
     {
         words & load::<N>(self.with, at)
     }
@@ -36,15 +37,17 @@ impl<const N: usize> ChangeOf<N> for Meeting<'_> {
 #[inline(always)]
 pub fn without<const N: usize>(words: Simd<u64, N>, other: Simd<u64, N>) -> Simd<u64, N>
     ensures long { length result ≡ N }
-    ensures each { (i lane : ℕ) → i < N → is_on (slice_index result i) lane ≡ (is_on (slice_index words.entry i) lane && not (is_on (slice_index other.entry i) lane)) }
+    ensures each { (i lane : ℕ) → i < N → is_on (slice_index result i) lane ≡
+        (is_on (slice_index words.entry i) lane && not (is_on (slice_index other.entry i) lane)) }
 {
     words & !other
 }
 
 /// Clears the lanes that are set in the words of `other`.
 #[derive(Clone, Copy)]
-struct Taking<'a> {
-    other: &'a [u64],
+pub struct Taking<'a> {
+    /// The words whose lanes are cleared, one for each word at least.
+    pub other: &'a [u64],
 }
 
 impl Change for Taking<'_> {
@@ -53,7 +56,8 @@ impl Change for Taking<'_> {
 
     ghost suits = { λ change many. many ≤ length change.other.now };
 
-    ghost makes = { λ change i old new. (lane : ℕ) → is_on new lane ≡ (is_on old lane && not (is_on (slice_index change.other.now i) lane)) };
+    ghost makes = { λ change i old new. (lane : ℕ) →
+        is_on new lane ≡ (is_on old lane && not (is_on (slice_index change.other.now i) lane)) };
 }
 
 impl<const N: usize> ChangeOf<N> for Taking<'_> {
@@ -61,7 +65,8 @@ impl<const N: usize> ChangeOf<N> for Taking<'_> {
     fn changed(&self, words: Simd<u64, N>, at: usize) -> Simd<u64, N>
         requires { (many : ℕ) × (at + N ≤ many) × (many ≤ length self.now.other.now) }
         ensures long { length result ≡ N }
-        ensures each { (k : ℕ) → k < N → (lane : ℕ) → is_on (slice_index result k) lane ≡ (is_on (slice_index words.entry k) lane && not (is_on (slice_index self.now.other.now (at + k)) lane)) }
+        ensures each { (k : ℕ) → k < N → (lane : ℕ) → is_on (slice_index result k) lane ≡
+            (is_on (slice_index words.entry k) lane && not (is_on (slice_index self.now.other.now (at + k)) lane)) }
     {
         without(words, load::<N>(self.other, at))
     }
@@ -72,7 +77,8 @@ impl<const N: usize> ChangeOf<N> for Taking<'_> {
 pub fn both(words: &mut [u64], with: &[u64])
     requires { length words.old ≤ length with.now }
     ensures long { length words.new ≡ length words.old }
-    ensures each { (i : ℕ) → i < length words.old → slice_index words.new i ≡ bit_and (slice_index words.old i) (slice_index with.now i) }
+    ensures each { (i : ℕ) → i < length words.old → slice_index words.new i ≡ bit_and (slice_index words.old i)
+        (slice_index with.now i) }
 {
     change_each(&Meeting { with }, words);
 }
@@ -82,7 +88,8 @@ pub fn both(words: &mut [u64], with: &[u64])
 pub fn less(words: &mut [u64], other: &[u64])
     requires { length words.old ≤ length other.now }
     ensures long { length words.new ≡ length words.old }
-    ensures each { (i lane : ℕ) → i < length words.old → is_on (slice_index words.new i) lane ≡ (is_on (slice_index words.old i) lane && not (is_on (slice_index other.now i) lane)) }
+    ensures each { (i lane : ℕ) → i < length words.old → is_on (slice_index words.new i) lane ≡
+        (is_on (slice_index words.old i) lane && not (is_on (slice_index other.now i) lane)) }
 {
     change_each(&Taking { other }, words);
 }

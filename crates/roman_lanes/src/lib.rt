@@ -16,5 +16,5 @@ mod tests;
 pub use block::load;
 pub use cells::count_equal;
 pub use change::{Change, ChangeOf, change_each};
-pub use combine::{both, less, without};
+pub use combine::{Taking, both, less, without};
 pub use search::first_set;

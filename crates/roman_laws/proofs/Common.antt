@@ -7,8 +7,8 @@ pub use Rattle.std.proofs.lemmas.Slice.Zip.{AllZip-right}
 unfoldable pub use Rattle.std.specs.Fmt.{digits}
 pub use Rattle.std.specs.List.{AllZip, list_any}
 pub use Rattle.std.specs.Prelude.{◌↔◌, ◌⊎◌}
-pub use Rattle.roman_model.proofs.CallerLemmas.{AreBelow-at, IsPair-alike, IsPairOf-at, IsSys-alike, IsSys-seats, all_final-remove, all_from_great, allowed_in, any_false, any_from, any_true, behaviours, by_test, combined_allows, combined_served, combined_sstep, combined_system, decoded, filter_in, find_found, find_some, fine_from, fine_is, freeze_one, from_allowed, from_append, from_beh_next, from_combined_allows, from_combined_sstep, from_flat_map, from_map, from_outcome, get-remove, get_in, great_from_all, great_holds, great_meets, great_related, great_survives, in_append_left, in_append_right, in_below, in_beh_next, in_filter, in_listed, in_map, in_not_empty, in_pairs, index-remove, index_set_place, join_once, justified_is, justified_more, last_is_sim, leave_out_same, left, listed_number, listed_unrelated, lost_dead, lost_fails, lost_unrelated, meets_survives, member_served, member_step, new_from_once, new_once, new_same, not_empty_in, not_empty_ne, number-pair_at, number_below, number_listed, offer_is, offers_are, order_new, other_zero, outcome_in, outcome_pair, outcome_seat, pair_at-number, place_before, related_great, related_offers, renaming_keeps, replay_order, replay_sublist, request_there, same_test, serves_more, set-remove, stands_step, states_at-number, states_length, states_number-at, states_number_below, sublist_in, sublist_length, sublist_skip, suc_same, system_is_same, total, triple_in, unlost_holds, world_as, zero_other}
-pub use Rattle.roman_model.specs.Arena.{AreNew, Arena, Entry, IsOrder, IsOrderFrom, depth, is_among, is_beaten, is_justified, loses, replay, replay_from}
+pub use Rattle.roman_model.proofs.CallerLemmas.{AreBelow-at, IsPair-alike, IsPairOf-at, IsSys-alike, IsSys-seats, all_final-remove, all_from_great, allowed_in, any_false, any_from, any_true, behaviours, by_test, combined_allows, combined_served, combined_sstep, combined_system, decoded, filter_in, find_found, find_some, fine_from, fine_is, freeze_one, from_allowed, from_append, from_beh_next, from_combined_allows, from_combined_sstep, from_flat_map, from_map, from_outcome, get-remove, get_in, great_from_all, great_holds, great_meets, great_related, great_survives, in_append_left, in_append_right, in_below, in_beh_next, in_filter, in_listed, in_map, in_not_empty, in_pairs, index-remove, index_set_place, join_once, justified_is, justified_more, last_is_sim, leave_out_same, left, listed_number, listed_unrelated, lost_dead, lost_fails, lost_unrelated, meets_survives, member_served, member_step, new_from_once, new_once, new_same, not_empty_in, not_empty_ne, number-pair_at, number_below, number_listed, offer_is, offers_are, order_new, other_zero, outcome_in, outcome_pair, outcome_seat, pair_at-number, place_before, related_great, related_offers, renaming_keeps, replay_order, replay_sublist, request_there, same_test, serves_more, set-remove, stands_step, states_at-number, states_long, states_number-at, states_number_below, sublist_in, sublist_length, sublist_skip, suc_same, system_is_same, total, triple_in, unlost_holds, world_as, zero_other}
+pub use Rattle.roman_model.specs.Arena.{AreNew, Arena, Entry, IsOrder, IsOrderFrom, depth, is_among, is_beaten, is_justified, loses, replay_from}
 pub use Rattle.roman_model.specs.Certificate.{Form, Greatest, Rejected, Repeated, Unjustified, Unlisted, Verdict, cert_text, cert_verdict}
 pub use Rattle.roman_model.specs.Change.{CanChange, Change, Die, Freeze, Join, Thaw, after, may_go, rename, set_frozen, without}
 pub use Rattle.roman_model.specs.Combined.{IsSeveral, all_requests, combined, combined_seat, couple_all, stands_in}

@@ -1,6 +1,6 @@
 -- The related pairs are the greatest ND-simulation. No listed pair is related, depth is bounded, a replay keeps the most entries, also after a
 -- change, and runs that follow the offers stay at related pairs.
-use Rattle.roman_laws.proofs.Common.{length, List, [], arith, ◌∷◌, map, IsTrue, filter, inl, inr, not_from_false, cond-true, cond-false, or_cases, or_right, or_left, Sys, IsSys, Pair, IsPair, arena, pairs, Couple, couple, Meets, Great, by_test, related_great, lost_dead, meets_survives, system_is_same, sublist_length, join_once, new_from_once, new_once, new_same, order_new, renaming_keeps, replay_sublist, outcome_pair, great_meets, great_related, offer_is, related_offers, in_map, in_filter, sublist_skip, in_pairs, in_listed, justified_more, replay_order, great_survives, last_is_sim, lost_unrelated, listed_unrelated, loses, Entry, IsOrder, AreNew, replay, Arena, is_among, IsOrderFrom, replay_from, after, Join, rename, Change, Freeze, Thaw, Die, CanChange, AreEntries, RepairsKeepTheMost, ReplaysKeepTheMost, is_related, IsSublist, GreatestIsGreatest, OrderRefutes, UnrelatedLoses, ReplayKeeps, FollowingStays}
+use Rattle.roman_laws.proofs.Common.{length, List, [], arith, ◌∷◌, map, IsTrue, filter, inl, inr, not_from_false, cond-true, cond-false, or_cases, or_right, or_left, Sys, IsSys, Pair, IsPair, arena, pairs, Couple, couple, Meets, Great, by_test, related_great, lost_dead, meets_survives, system_is_same, sublist_length, join_once, new_from_once, new_once, new_same, order_new, renaming_keeps, replay_sublist, outcome_pair, great_meets, great_related, offer_is, related_offers, in_map, in_filter, sublist_skip, in_pairs, in_listed, justified_more, replay_order, great_survives, last_is_sim, lost_unrelated, listed_unrelated, loses, Entry, IsOrder, AreNew, Arena, is_among, IsOrderFrom, replay_from, after, Join, rename, Change, Freeze, Thaw, Die, CanChange, AreEntries, RepairsKeepTheMost, ReplaysKeepTheMost, is_related, IsSublist, GreatestIsGreatest, OrderRefutes, UnrelatedLoses, ReplayKeeps, FollowingStays}
 
 -- Each relation that meets the three clauses of an ND-simulation is part of the greatest one, even if it can't be listed.
 
@@ -39,12 +39,9 @@ replay_from_keeps A before kept (m ∷ M) [] s order within = absurd s
 replay_from_keeps A before kept (m ∷ M) (x ∷ L) (inl (e, s)) order within = grind (arith, cond-true, justified_more, or_cases, or_left, or_right, (replay_from_keeps A (m.node ∷ before) (x.node ∷ kept) M L s order.2))
 replay_from_keeps A before kept (m ∷ M) (x ∷ L) (inr s) order within = grind (arith, by_test, cond-true, sublist_skip, or_right, cond-false, (replay_from_keeps A before (x.node ∷ kept) (m ∷ M) L s order), (replay_from_keeps A before kept (m ∷ M) L s order within))
 
-pub replay_keeps : {N : Type 0} (A : Arena N) (M L : List (Entry N)) → IsSublist M L → IsOrder A M → IsSublist M (replay A L)
-replay_keeps A M L s order = replay_from_keeps A [] [] M L s order (λ q t. t)
-
 -- The replay keeps the most entries.
 pub replay_kept : ReplayKeeps
-replay_kept s L new = record { order = replay_order (arena s) L new; best = λ M sub order. replay_keeps (arena s) M L sub order }
+replay_kept s L new = record { order = replay_order (arena s) L new; best = λ M sub order. (replay_from_keeps (arena s) [] [] M L sub order (λ q t. t)) }
 
 -- A run that follows the offers stays at related pairs.
 pub following_related : FollowingStays

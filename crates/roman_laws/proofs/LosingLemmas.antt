@@ -1,5 +1,5 @@
 -- The loss of services never helps, and the least failing sets determine the sets that fail.
-use Rattle.roman_laws.proofs.Common.{◌≡◌, ℕ, suc, ◌<◌, Bool, true, not, ◌&&◌, ◌||◌, List, [], ◌∷◌, length, Some, IsTrue, IsFalse, slice_get, slice_index, slice_set, remove, refl, sym, ap, ◌∙◌, subst, arith, zero, ◌==◌, cond, ◌++◌, inl, inr, filter, same_Some, slice_get_within, none-some, IsIn, Seat, Sys, Pair, has, IsSys, IsPair, SStep, is_final, all_final, Couple, Meets, GreatCouple, Great, couple, set_frozen, without, may_go, freeze_at, leave_out, system_without, pair_without, by_test, number_listed, listed_number, left, great_meets, states_length, all_final-remove, get-remove, index-remove, index_set_place, place_before, set-remove, freeze_one, in_append_left, in_append_right, from_append, leave_out_same, other_zero, suc_same, zero_other, same_test, filter_in, in_filter, GreatWithout, ArePart, MayGoAt, LosingNeverHelps, MayAllGo, IsLeastFailing, LeastFailingSuffice, or_parts, or_from, both_ways, eqb-true, or_right, or_cases, eq-eqb, not-true, not_from_false, length-set, AllZip-right, AllZip, is_related, Way, ◌⊎◌, IsReduced}
+use Rattle.roman_laws.proofs.Common.{◌≡◌, ℕ, suc, ◌<◌, Bool, true, not, ◌&&◌, ◌||◌, List, [], ◌∷◌, length, Some, IsTrue, IsFalse, slice_get, slice_index, slice_set, remove, refl, sym, ap, ◌∙◌, subst, arith, zero, ◌==◌, cond, ◌++◌, inl, inr, filter, same_Some, slice_get_within, none-some, IsIn, Seat, Sys, Pair, has, IsSys, IsPair, SStep, is_final, all_final, Couple, Meets, GreatCouple, Great, couple, set_frozen, without, may_go, freeze_at, leave_out, system_without, pair_without, by_test, number_listed, listed_number, left, great_meets, states_long, all_final-remove, get-remove, index-remove, index_set_place, place_before, set-remove, freeze_one, in_append_left, in_append_right, from_append, leave_out_same, other_zero, suc_same, zero_other, same_test, filter_in, in_filter, GreatWithout, ArePart, MayGoAt, LosingNeverHelps, MayAllGo, IsLeastFailing, LeastFailingSuffice, or_parts, or_from, both_ways, eqb-true, or_right, or_cases, eq-eqb, not-true, not_from_false, length-set, AllZip-right, AllZip, is_related, Way, ◌⊎◌, IsReduced}
 use Rattle.roman_laws.proofs.GreatestLemmas.{closed_great}
 use Rattle.roman_laws.proofs.ReducedLemmas.{IsSys-reduced, IsPair-reduced, reduced_are}
 use Rattle.roman_laws.proofs.OutcomeLemmas.{final_at}
@@ -61,9 +61,6 @@ pub freeze_at_besides : (at : ℕ → Bool) (xs : List Seat) → AreFrozenMore x
 freeze_at_besides at [] = tt
 freeze_at_besides at (x ∷ xs) = ((refl, refl, λ f. (or_parts x.frozen (at 0) f).0), freeze_at_besides (λ i. at (suc i)) xs)
 
-pub set_frozen_more : (xs : List Seat) (k : ℕ) → AreFrozenMore xs (set_frozen xs k true)
-set_frozen_more xs k = subst (AreFrozenMore xs) (freeze_one k xs) (freeze_at_besides (has (k ∷ [])) xs)
-
 pub frozen_more : (s : Sys) (p : Pair) (K J : List ℕ) → ArePart K J → GreatWithout way.Freeze s p J → GreatWithout way.Freeze s p K
 frozen_more s p K J more great = great_thawed s (freeze_at (has K) s.seats) (freeze_at (has J) s.seats) (freeze_at_more (has K) (has J) s.seats (λ i t. listed_number J i (more i (number_listed K i t)))) p great
 
@@ -87,11 +84,6 @@ step_with s k bs e a j bs' e' r = (
   grind (arith, get-remove, index-remove),
 )
 
--- a step that leaves seat k in its state is a step without seat k
-step_without : (s : Sys) (k : ℕ) (bs : List ℕ) (e a j : ℕ) (bs' : List ℕ) (e' : ℕ) → SStep s bs e a (place_before k j) bs' e' →
-    SStep (left s k) (remove bs k) e a j (remove bs' k) e'
-step_without s k bs e a j bs' e' r = grind (arith, get-remove, index-remove, set-remove)
-
 stands_by_meets : (s : Sys) (k : ℕ) (seat : Seat) (b : ℕ) → slice_get s.seats k ≡ Some seat → IsTrue (not seat.rests || is_final seat.beh b) →
     (c : Couple) → StandsBy s k b c → Meets s (StandsBy s k b) c
 stands_by_meets s k seat b seated goes c stands =
@@ -106,7 +98,7 @@ stands_by_meets s k seat b seated goes c stands =
                 let (some, all) = serves t' e' step in (
                   step_with s k c.bs c.e2 a j some.0 e' some.1,
                   λ bs' r. record {
-                    great = all (remove bs' k) (step_without s k c.bs c.e2 a j bs' e' r);
+                    great = all (remove bs' k) (grind (arith, get-remove, index-remove, set-remove));
                     state = ap (λ bs. slice_index bs k) r.is ∙ index_set_place c.bs k j r.to ∙ stands.state;
                     within = subst (λ bs. k < length bs) (sym r.is) (subst (λ n. k < n) (sym (length-set c.bs (place_before k j) r.to)) stands.within);
                   },
@@ -118,7 +110,7 @@ pub great_with_gone : (s : Sys) (k : ℕ) (seat : Seat) (p : Pair) → IsSys s �
 great_with_gone s k seat p ok pair seated goes great =
     let within : k < length s.seats = slice_get_within s.seats k seat seated in
     closed_great s (StandsBy s k (slice_index p.bs k)) ok (stands_by_meets s k seat (slice_index p.bs k) seated goes) p pair
-    (record { great = great; state = refl; within = subst (λ n. k < n) (sym (states_length s.seats p.bs pair.bs)) within })
+    (record { great = great; state = refl; within = subst (λ n. k < n) (sym (states_long s p pair)) within })
 
 -- Seats that leave one after the other.
 
@@ -183,7 +175,7 @@ more_gone s p K J ok pair more may great = more_back s p J K ok pair may (same_w
 
 pub losing_never : LosingNeverHelps
 losing_never s p = record {
-  one_frozen = λ k great. great_thawed s s.seats (set_frozen s.seats k true) (set_frozen_more s.seats k) p great;
+  one_frozen = λ k great. great_thawed s s.seats (set_frozen s.seats k true) (subst (AreFrozenMore s.seats) (freeze_one k s.seats) (freeze_at_besides (has (k ∷ [])) s.seats)) p great;
   more_frozen = λ K J more great. frozen_more s p K J more great;
   any_frozen = λ K great. great_thawed s s.seats (freeze_at (has K) s.seats) (freeze_at_besides (has K) s.seats) p great;
   one_gone = λ ok pair k seat seated goes great. great_with_gone s k seat p ok pair seated goes great;

@@ -27,9 +27,11 @@ pub(crate) fn load_catalogue<F: Shelf>(
     v: &Value,
     environment: &Environment,
 ) -> Result<Vec<Behaviour>, LoadError>
-    ensures catalogue { LoadsFrom (F.texts shelf.old) (λ x. x.items) result (λ texts. catalogue_in texts document.now environment.now (view v.now)) }
+    ensures catalogue { LoadsFrom (F.texts shelf.old) (λ x. x.items) result
+        (λ texts. catalogue_in texts document.now environment.now (view v.now)) }
     ensures known { IfOk result (λ catalogue. IsSmallCatalogue environment.now catalogue.items) }
-    ensures shelf { LeavesShelf (F.texts shelf.old) (F.texts shelf.new) (F.faults shelf.old) (F.faults shelf.new) result }
+    ensures shelf { LeavesShelf (F.texts shelf.old) (F.texts shelf.new) (F.faults shelf.old)
+        (F.faults shelf.new) result }
 {
     let items = counted_member(v, "behaviours", List::Behaviours, 0, MAX_BEHAVIOURS as u32);
     let items = placed(alloc, document, Part::System, items)?;

@@ -38,7 +38,8 @@ pub(crate) trait Listed: Drop {
         before: &[Self],
     ) -> Result<Self, PartError>
         ensures part { Gives (λ x. x) result (meaning environment.now before.now (view v.now)) }
-        ensures known { IfOk result (λ x. are_known environment.now before.now → are_known environment.now (before.now ++ x ∷ [])) };
+        ensures known { IfOk result (λ x. are_known environment.now before.now →
+            are_known environment.now (before.now ++ x ∷ [])) };
 }
 
 /// Loads the parts in the items of a list.
@@ -52,10 +53,12 @@ pub(crate) fn load_items<P: Listed, F: Shelf>(
     requires few { length items.now < 2 ^ 32 }
     requires none { P.are_known environment.now [] }
     ensures parts { LoadsFrom (F.texts shelf.old) (λ x. x.items) result
-        (λ texts. each_item (listed_step P.part_at P.meaning texts document.now environment.now) 0 [] (items_view items.now)) }
+        (λ texts. each_item (listed_step P.part_at P.meaning texts document.now environment.now) 0 []
+        (items_view items.now)) }
     ensures known { IfOk result (λ parts. P.are_known environment.now parts.items) }
     ensures count { IfOk result (λ parts. length parts.items ≡ length items.now) }
-    ensures shelf { LeavesShelf (F.texts shelf.old) (F.texts shelf.new) (F.faults shelf.old) (F.faults shelf.new) result }
+    ensures shelf { LeavesShelf (F.texts shelf.old) (F.texts shelf.new) (F.faults shelf.old)
+        (F.faults shelf.new) result }
 {
     let mut parts = Vec::with_capacity(alloc, items.len())?;
     for (i, item) in items.iter().enumerate() {
@@ -79,8 +82,10 @@ fn load_item<P: Listed, F: Shelf>(
 ) -> Result<P, LoadError>
     ensures part { LoadsFrom (F.texts shelf.old) (λ x. x) result
         (λ texts. listed_in P.part_at P.meaning texts document.now environment.now before.now number (view v.now)) }
-    ensures known { IfOk result (λ x. P.are_known environment.now before.now → P.are_known environment.now (before.now ++ x ∷ [])) }
-    ensures shelf { LeavesShelf (F.texts shelf.old) (F.texts shelf.new) (F.faults shelf.old) (F.faults shelf.new) result }
+    ensures known { IfOk result (λ x. P.are_known environment.now before.now →
+        P.are_known environment.now (before.now ++ x ∷ [])) }
+    ensures shelf { LeavesShelf (F.texts shelf.old) (F.texts shelf.new) (F.faults shelf.old)
+        (F.faults shelf.new) result }
 {
     let part = P::part(number);
     match placed(alloc, document, part, file_of(v))? {

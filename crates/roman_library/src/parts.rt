@@ -22,8 +22,10 @@ pub(crate) fn load_environment<F: Shelf>(
     document: &str,
     v: &Value,
 ) -> Result<Environment, LoadError>
-    ensures environment { LoadsFrom (F.texts shelf.old) (λ x. x) result (λ texts. environment_in texts document.now (view v.now)) }
-    ensures shelf { LeavesShelf (F.texts shelf.old) (F.texts shelf.new) (F.faults shelf.old) (F.faults shelf.new) result }
+    ensures environment { LoadsFrom (F.texts shelf.old) (λ x. x) result
+        (λ texts. environment_in texts document.now (view v.now)) }
+    ensures shelf { LeavesShelf (F.texts shelf.old) (F.texts shelf.new) (F.faults shelf.old)
+        (F.faults shelf.new) result }
 {
     let part = Part::Environment;
     let member = looked(member(v, "environment"), List::Whole, 0);
@@ -46,9 +48,11 @@ pub(crate) fn load_target<F: Shelf>(
     v: &Value,
     environment: &Environment,
 ) -> Result<Target, LoadError>
-    ensures target { LoadsFrom (F.texts shelf.old) (λ x. x) result (λ texts. target_in texts document.now environment.now (view v.now)) }
+    ensures target { LoadsFrom (F.texts shelf.old) (λ x. x) result
+        (λ texts. target_in texts document.now environment.now (view v.now)) }
     ensures known { IfOk result (λ target. IsTarget environment.now target) }
-    ensures shelf { LeavesShelf (F.texts shelf.old) (F.texts shelf.new) (F.faults shelf.old) (F.faults shelf.new) result }
+    ensures shelf { LeavesShelf (F.texts shelf.old) (F.texts shelf.new) (F.faults shelf.old)
+        (F.faults shelf.new) result }
 {
     let part = Part::Target(0);
     let member = looked(member(v, "target"), List::Whole, 0);

@@ -30,7 +30,8 @@ pub(crate) fn read_services(
     catalogue: &[Behaviour],
 ) -> Result<Vec<Service>, LoadError>
     requires { length catalogue.now ≤ MAX_BEHAVIOURS }
-    ensures services { LoadsQuietly (λ x. x.items) result (services_of document.now version catalogue.now (view v.now)) }
+    ensures services { LoadsQuietly (λ x. x.items) result (services_of document.now version catalogue.now
+        (view v.now)) }
     ensures known { IfOk result (λ services. AreFewServices catalogue.now services.items) }
 {
     let items = counted_member(v, "services", List::Services, 0, MAX_SERVICES as u32);

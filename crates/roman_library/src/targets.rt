@@ -46,7 +46,8 @@ pub(crate) fn load_parts<F: Shelf>(
     ensures parts { LoadsFrom (F.texts shelf.old) combining.plain_combined result
         (λ texts. parts_in texts document.now version environment catalogue.items (view v.now)) }
     ensures known { IfOk result (λ made. ArePartsOf catalogue.items (combining.plain_combined made)) }
-    ensures shelf { LeavesShelf (F.texts shelf.old) (F.texts shelf.new) (F.faults shelf.old) (F.faults shelf.new) result }
+    ensures shelf { LeavesShelf (F.texts shelf.old) (F.texts shelf.new) (F.faults shelf.old)
+        (F.faults shelf.new) result }
 {
     environment.known(); // the environment is well formed
     if version == SEVERAL {
@@ -71,9 +72,11 @@ fn load_targets<F: Shelf>(
     v: &Value,
     environment: &Environment,
 ) -> Result<Vec<Named>, LoadError>
-    ensures targets { LoadsFrom (F.texts shelf.old) (λ x. x.items) result (λ texts. targets_in texts document.now environment.now (view v.now)) }
+    ensures targets { LoadsFrom (F.texts shelf.old) (λ x. x.items) result
+        (λ texts. targets_in texts document.now environment.now (view v.now)) }
     ensures known { IfOk result (λ targets. AreTargets environment.now targets.items) }
-    ensures shelf { LeavesShelf (F.texts shelf.old) (F.texts shelf.new) (F.faults shelf.old) (F.faults shelf.new) result }
+    ensures shelf { LeavesShelf (F.texts shelf.old) (F.texts shelf.new) (F.faults shelf.old)
+        (F.faults shelf.new) result }
 {
     let items = counted_member(v, "targets", List::Targets, FEWEST, MOST);
     let items = placed(alloc, document, Part::System, items)?;

@@ -7,7 +7,7 @@ pub use Rattle.std.proofs.lemmas.Simd.{map-map}
 pub use Rattle.std.specs.List.{list_all}
 unfoldable pub use Rattle.roman_guard.specs.Meaning.{states_below}
 pub use Rattle.roman_library.specs.Library.{AreServices, IsLibrary, IsService, PlainLibrary, service_name}
-pub use Rattle.roman_model.proofs.CallerLemmas.{HasNoRepeats-below, HasNoRepeats-map, any_true, in_map, move_test}
+pub use Rattle.roman_model.proofs.CallerLemmas.{HasNoRepeats-below, HasNoRepeats-map, any_true, in_map, in_take, move_test}
 pub use Rattle.roman_model.specs.Lists.{HasNoRepeats, IsIn}
 pub use Rattle.roman_model.specs.Normal.{normal_beh, normal_env}
 pub use Rattle.roman_model.specs.System.{Beh, IsDeterministic, IsEnv, Move, has_move}

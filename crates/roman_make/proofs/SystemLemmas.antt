@@ -1,5 +1,5 @@
 -- The library that is made is the library of the definition, and is well formed.
-use Rattle.roman_make.proofs.Common.{◌≡◌, ℕ, zero, suc, ◌≤◌, ◌∷◌, [], List, length, map, take, inl, inr, lit<, lit≤, arith, length-map, length-take-le, All-cons, All-map, map-map, IsIn, HasNoRepeats, IsEnv, HasNoRepeats-below, HasNoRepeats-map, in_map, NamedEnv, NamedBeh, NamedTarget, IsBehaviour, IsTarget, PlainLibrary, IsLibrary, AreServices, IsService, service_name, number_in, floor, worker, worker_names, idle_worker, shift, made}
+use Rattle.roman_make.proofs.Common.{◌≡◌, ℕ, zero, suc, ◌≤◌, ◌∷◌, [], List, length, map, take, lit<, lit≤, arith, length-map, length-take-le, All-cons, All-map, map-map, HasNoRepeats, IsEnv, HasNoRepeats-below, HasNoRepeats-map, in_map, NamedEnv, NamedBeh, NamedTarget, IsBehaviour, IsTarget, PlainLibrary, IsLibrary, AreServices, IsService, service_name, number_in, floor, worker, worker_names, idle_worker, shift, made, in_take}
 
 -- ---- distinct names
 
@@ -7,12 +7,6 @@ use Rattle.roman_make.proofs.Common.{◌≡◌, ℕ, zero, suc, ◌≤◌, ◌�
 once_from_map : {X Y : Type 0} (f : X → Y) (xs : List X) → HasNoRepeats (map f xs) → HasNoRepeats xs
 once_from_map f [] once = tt
 once_from_map f (x ∷ xs) once = (λ i. once.0 (in_map f x xs i), once_from_map f xs once.1)
-
-in_take : {X : Type 0} (n : ℕ) (x : X) (xs : List X) → IsIn x (take n xs) → IsIn x xs
-in_take zero x xs i = absurd i
-in_take (suc n) x [] i = absurd i
-in_take (suc n) x (y ∷ ys) (inl e) = inl e
-in_take (suc n) x (y ∷ ys) (inr i) = inr (in_take n x ys i)
 
 once_in_front : {X : Type 0} (n : ℕ) (xs : List X) → HasNoRepeats xs → HasNoRepeats (take n xs)
 once_in_front zero xs once = tt

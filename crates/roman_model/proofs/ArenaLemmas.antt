@@ -139,16 +139,11 @@ pub unjustified : {N : Type 0} (A : Arena N) (Lives : N → Type 0) (gone : N �
 unjustified A Lives gone p Final s dead j = both_ways (A.fine p) (not-true (A.fine p) j) s.final
 unjustified A Lives gone p (Act a) s dead j = grind (arith, beaten_is, justified_is)
 
--- a node at which no reason holds survives among the nodes that aren't gone
-pub survivor : {N : Type 0} (A : Arena N) (gone : N → Bool) (p : N) → IsTrue (A.fine p) →
-    ((a : ℕ) → IsTrue (A.allows p a) → IsFalse (is_justified A gone p (Act a))) → Survives A (λ q. IsFalse (gone q)) p
-survivor A gone p fine h = grind (arith, unbeaten_is, all_below_false, and_cases, both_ways)
-
 -- the same, where only nodes of the arena count
 pub survivor_within : {N : Type 0} (A : Arena N) → IsArena A → (gone : N → Bool) (p : N) → IsIn p A.nodes → IsTrue (A.fine p) →
     ((a : ℕ) → IsTrue (A.allows p a) → IsFalse (is_justified A gone p (Act a))) → Survives A (λ q. IsIn q A.nodes × IsFalse (gone q)) p
 survivor_within A ok gone p i fine h =
-    survives_more A (λ q. IsFalse (gone q)) (λ q. IsIn q A.nodes × IsFalse (gone q)) p (λ a k q j f. (ok.closed p i a k q j, f)) (survivor A gone p fine h)
+    survives_more A (λ q. IsFalse (gone q)) (λ q. IsIn q A.nodes × IsFalse (gone q)) p (λ a k q j f. (ok.closed p i a k q j, f)) (grind (arith, unbeaten_is, all_below_false, and_cases, both_ways))
 
 -- Delegations.
 

@@ -1,5 +1,5 @@
 -- The certificate of a complete list is accepted, an accepted certificate is complete, and the verdict on a text whose first lines have been read.
-use Rattle.roman_model.proofs.Common.{Verdict, head_line, count_line, reason_text, entry_line, end_line, Why, TooLong, reasons, possible_entries, entry_of, entries_on, unless_over, body_fault, line_fault, faults, unlisted, cert_verdict, IsClean, cert_text, Form, Unlisted, Greatest, cert_lines, unless_is, entry_fault, could_be_listed, end_fault, greatest, IsWithinCells, WrittenIsGreatest, GreatestIsComplete, Rejected, ◌≡◌, ℕ, zero, suc, ◌+◌, ◌*◌, ◌^◌, ◌<◌, ◌≤◌, Bool, not, ◌&&◌, List, [], ◌∷◌, ◌++◌, map, length, take, Option, Some, None, IsTrue, IsFalse, if◌then◌else◌, filter, find, option_map, slice_get, slice_index_or, codes, decimal, refl, sym, ap, ap₂, ◌∙◌, subst, inl, inr, arith, append_assoc, append-nil, length-append, le-leb, ◌-◌, list_any, cons_option, cases_lt, both_ways, and_left, not-false, not_from_true, cond-true, cond-false, and_from, lt-leb, length-map, map_push, filter_map-append, list_any-append, none-some, IsIn, below, lines, ended_lines, text_of_lines, IsLine, AreLines, Sys, IsSys, pairs, same_numbers, arena, Arena, Entry, is_listed, is_justified, IsOrder, Great, sizes_of, count, pair_at, numbered, entry_at, IsCompleteList, is_related, MAX_CERTIFICATE_BYTES, MAX_CELLS, Reason, Final, Act, not-not, mul-le, length-decimal-le, take-append-add}
+use Rattle.roman_model.proofs.Common.{Verdict, head_line, count_line, reason_text, entry_line, end_line, Why, TooLong, reasons, possible_entries, entry_of, entries_on, unless_over, body_fault, line_fault, faults, unlisted, cert_verdict, IsClean, cert_text, Form, Unlisted, Greatest, cert_lines, unless_is, entry_fault, could_be_listed, end_fault, greatest, IsWithinCells, WrittenIsGreatest, GreatestIsComplete, Rejected, ◌≡◌, ℕ, zero, suc, ◌+◌, ◌*◌, ◌^◌, ◌<◌, ◌≤◌, Bool, not, List, [], ◌∷◌, ◌++◌, map, length, take, Option, Some, None, IsTrue, IsFalse, if◌then◌else◌, filter, find, option_map, slice_get, slice_index_or, codes, decimal, refl, sym, ap, ap₂, ◌∙◌, subst, inl, inr, arith, append_assoc, append-nil, length-append, le-leb, ◌-◌, list_any, cons_option, cases_lt, both_ways, and_left, not-false, not_from_true, cond-true, cond-false, and_from, lt-leb, length-map, map_push, filter_map-append, list_any-append, none-some, IsIn, below, lines, ended_lines, text_of_lines, IsLine, AreLines, Sys, IsSys, pairs, same_numbers, arena, Arena, Entry, is_listed, is_justified, IsOrder, Great, sizes_of, count, pair_at, numbered, entry_at, IsCompleteList, is_related, MAX_CERTIFICATE_BYTES, MAX_CELLS, Reason, Final, Act, not-not, mul-le, length-decimal-le, take-append-add}
 use Rattle.roman_model.proofs.Lists.{by_test, none_from, any_from, from_map, in_append_left, in_append_right, from_append, in_push, in_below, from_below, filter_same, find_not_found, length-below, filter-map, any_false, find_none, from_push}
 use Rattle.roman_model.proofs.SystemLemmas.{same_numbers_is, same_numbers_itself, pairs_at}
 use Rattle.roman_model.proofs.ArenaLemmas.{reason_in, unjustified}
@@ -31,10 +31,6 @@ entry_on s line = entry_of (node_count s) s.env.actions line
 node_count_is : (s : Sys) → node_count s ≡ count (sizes_of s)
 node_count_is s = length-below (count (sizes_of s))
 
--- the entries that can stand in its certificate are of its numbers
-number_possible : (s : Sys) (x : Entry ℕ) → x.node < count (sizes_of s) → IsIn x.reason (reasons s.env.actions) → IsIn x (possible_entries (node_count s) s.env.actions)
-number_possible s x l i = in_possible (node_count s) s.env.actions x (subst (λ n. x.node < n) (sym (node_count_is s)) l) i
-
 possible_number : (s : Sys) (x : Entry ℕ) → IsIn x (possible_entries (node_count s) s.env.actions) → (x.node < count (sizes_of s)) × IsIn x.reason (reasons s.env.actions)
 possible_number s x i = grind (arith, from_possible, node_count_is)
 
@@ -59,7 +55,7 @@ complete_order s L sys are complete = order_named (numbered s) (arena s) (pair_a
 
 pub order_possible : (s : Sys) (L : List (Entry ℕ)) → IsSys s → AreNumbers s L → IsOrder (numbered s) L → ArePossible s L
 order_possible s L sys are order x i =
-    number_possible s x (are x i) (reason_in (numbered s) (numbered_is_arena s sys) (is_listed (numbered s) L) x.node x.reason (order_justified (numbered s) L x order i))
+    in_possible (node_count s) s.env.actions x (subst (λ n. x.node < n) (sym (node_count_is s)) (are x i)) (reason_in (numbered s) (numbered_is_arena s sys) (is_listed (numbered s) L) x.node x.reason (order_justified (numbered s) L x order i))
 
 -- The lines of a certificate are clean
 
@@ -76,9 +72,6 @@ entry_clean : (s : Sys) (before : List (Entry ℕ)) (x : Entry ℕ) → IsFew s 
     line_fault (numbered s) (opened s before) (Some (entry_line x)) ≡ None
 entry_clean s before x small are is new holds = grind (arith, (no_end s before small are), (entry_is_no_end x (possible_small (node_count s) s.env.actions x small is)), (entries_on-lines (numbered s) before small are), (entry_of-line (node_count s) s.env.actions x small is))
 
-opened_push : (s : Sys) (before : List (Entry ℕ)) (x : Entry ℕ) → opened s before ++ entry_line x ∷ [] ≡ opened s (before ++ x ∷ [])
-opened_push s before x = ap (λ ls. head_line ∷ count_line (node_count s) ∷ ls) (sym (map_push entry_line before x))
-
 head_clean : (s : Sys) → IsClean (numbered s) (opened s []) 2
 head_clean s zero l = ap (λ b. if b then None else Some Form) (same_numbers_itself head_line)
 head_clean s (suc zero) l = ap (λ b. if b then None else Some Form) (same_numbers_itself (count_line (node_count s)))
@@ -91,7 +84,7 @@ entries_clean s before (x ∷ rest) small are order clean =
     let (new, holds) = order_middle (numbered s) before rest x order in
     let more : before ++ x ∷ rest ≡ (before ++ x ∷ []) ++ rest = sym (append_assoc before (x ∷ []) rest) in
     let next : IsClean (numbered s) (opened s (before ++ x ∷ [])) (length (opened s (before ++ x ∷ []))) =
-    subst (λ ls. IsClean (numbered s) ls (length ls)) (opened_push s before x)
+    subst (λ ls. IsClean (numbered s) ls (length ls)) (ap (λ ls. head_line ∷ count_line (node_count s) ∷ ls) (sym (map_push entry_line before x)))
     (clean_push (numbered s) (opened s before) (entry_line x) clean
     (entry_clean s before x small (λ y i. are y (in_append_left y before (x ∷ rest) i)) (are x (in_append_right x before (x ∷ rest) (inl refl))) new holds)) in
     subst (λ M. IsClean (numbered s) (opened s M) (length (opened s M))) (sym more)
@@ -105,20 +98,14 @@ complete_end s L none =
     (λ t. and_left (not (is_listed (numbered s) L p)) (list_any (is_justified (numbered s) (is_listed (numbered s) L) p) (reasons s.env.actions)) (not_from_true (is_listed (numbered s) L p) t))
     (λ f. grind (arith, (none_from (is_justified (numbered s) (is_listed (numbered s) L) p) (reasons s.env.actions)), (none p (from_below (count (sizes_of s)) p i) f))))))
 
-end_clean : (s : Sys) (L : List (Entry ℕ)) → IsFew s → ArePossible s L → end_fault (numbered s) L ≡ None → line_fault (numbered s) (opened s L) (Some end_line) ≡ None
-end_clean s L small are none = grind (arith, (no_end s L small are), (entries_on-lines (numbered s) L small are))
-
-over_clean : (s : Sys) (L : List (Entry ℕ)) → line_fault (numbered s) (cert_lines (node_count s) L) None ≡ None
-over_clean s L = grind (arith, any_from, in_push, same_numbers_itself)
-
 -- the lines of a complete list's certificate have no fault, and neither has its end
 pub cert_clean : (s : Sys) (L : List (Entry ℕ)) → IsFew s → ArePossible s L → IsOrder (numbered s) L → end_fault (numbered s) L ≡ None →
     IsClean (numbered s) (cert_lines (node_count s) L) (length (cert_lines (node_count s) L) + 1)
 cert_clean s L small are order none i l = elim (cases_lt i (length (cert_lines (node_count s) L))) [
-  | inl less ↦ clean_push (numbered s) (opened s L) end_line (entries_clean s [] L small are order (head_clean s)) (end_clean s L small are none) i less
+  | inl less ↦ clean_push (numbered s) (opened s L) end_line (entries_clean s [] L small are order (head_clean s)) (grind (arith, (no_end s L small are), (entries_on-lines (numbered s) L small are))) i less
   | inr more ↦
       let here : i ≡ length (cert_lines (node_count s) L) = omega arith in
-      ap (λ k. line_fault (numbered s) (take k (cert_lines (node_count s) L)) (slice_get (cert_lines (node_count s) L) k)) here ∙ fault_over (numbered s) (cert_lines (node_count s) L) ∙ over_clean s L
+      ap (λ k. line_fault (numbered s) (take k (cert_lines (node_count s) L)) (slice_get (cert_lines (node_count s) L) k)) here ∙ fault_over (numbered s) (cert_lines (node_count s) L) ∙ (grind (arith, any_from, in_push, same_numbers_itself))
 ]
 
 -- The lines are read as the entries
@@ -381,7 +368,7 @@ pub verdict_within : (A : Arena ℕ) (start : ℕ) (bytes : List ℕ) (ls : List
     IsClean A ls (length ls) → line_fault A ls (Some line) ≡ Some why → cert_verdict A start bytes ≡ Rejected (length ls + 1) why
 verdict_within A start bytes ls line more why long is clean fault = grind (arith, (judged_long A start bytes long), (first_fault A ls line more (length (ls ++ line ∷ more)) why TooLong clean fault (omega (arith, length-append ls (line ∷ more)))))
 
-take_past : {X : Type 0} (n : ℕ) (xs ys : List X) → length xs ≤ n → take n (xs ++ ys) ≡ xs ++ take (n - length xs) ys
+pub take_past : {X : Type 0} (n : ℕ) (xs ys : List X) → length xs ≤ n → take n (xs ++ ys) ≡ xs ++ take (n - length xs) ys
 take_past n xs ys l = let same : n ≡ length xs + (n - length xs) = omega arith in ap (λ m. take m (xs ++ ys)) same ∙ take-append-add xs ys (n - length xs)
 
 -- the verdict where the newline of a faulty line is within the limit, whatever follows

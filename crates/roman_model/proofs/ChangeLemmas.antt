@@ -1,5 +1,5 @@
 -- The effect of a change of the seats on systems, pairs, outcomes and removal lists: the replay of a renamed list is a removal list.
-use Rattle.roman_model.proofs.Common.{length-append, ◌≡◌, ℕ, zero, suc, ◌<◌, ◌≤◌, Bool, true, not, ◌&&◌, ◌||◌, List, [], ◌∷◌, ◌++◌, map, length, Some, IsTrue, filter, flat_map, slice_get, slice_index, slice_set, remove, refl, sym, ap, ap₂, ◌∙◌, subst, inl, inr, arith, rules, length-take, length-drop, false, length-map, map-append, length_push, take-map, drop-map, same_from_push, IsPairOf, sizes_of, grown_sizes, sizes_without, AllZip-long, list_any, AllZip, cases_eq, both_ways, or_cases, or_left, or_right, cond-true, cond-false, flat_map-map, none-some, same_Some, slice_get_within, IsIn, HasNoRepeats, below, Beh, Seat, Sys, Pair, IsBeh, IsSys, IsPair, is_final, all_final, env_next, beh_next, seat_next, outcomes_by, outcomes, is_fine, same_pair, arena, Entry, is_among, is_beaten, is_justified, IsOrderFrom, AreNew, AreEntries, Join, Die, set_frozen, grown, without, may_go, firsts, entry_without, rename, Freeze, Thaw, RenamingKeeps, MAX_SERVICES, Reason, Final, Act}
+use Rattle.roman_model.proofs.Common.{length-append, ◌≡◌, ℕ, zero, suc, ◌<◌, ◌≤◌, Bool, true, not, ◌&&◌, ◌||◌, List, [], ◌∷◌, ◌++◌, map, length, Some, IsTrue, filter, flat_map, slice_get, slice_index, slice_set, remove, refl, sym, ap, ap₂, ◌∙◌, subst, inl, inr, arith, rules, length-take, length-drop, false, length-map, map-append, length_push, take-map, drop-map, same_from_push, IsPairOf, sizes_of, grown_sizes, sizes_without, AllZip-long, list_any, cases_eq, both_ways, or_cases, or_left, or_right, cond-true, cond-false, flat_map-map, none-some, same_Some, slice_get_within, IsIn, HasNoRepeats, below, Beh, Seat, Sys, Pair, IsBeh, IsSys, IsPair, is_final, all_final, env_next, beh_next, seat_next, outcomes_by, outcomes, is_fine, same_pair, arena, Entry, is_among, is_beaten, is_justified, IsOrderFrom, AreNew, AreEntries, Join, Die, set_frozen, grown, without, may_go, firsts, entry_without, rename, Freeze, Thaw, RenamingKeeps, MAX_SERVICES, Reason, Final, Act, Change, CanChange, after}
 use Rattle.roman_model.proofs.NumberLemmas.{IsPair-from, IsPairOf-from, IsPairOf-grown, IsPairOf-without}
 use Rattle.roman_model.proofs.Lists.{flat_map_same, map-map, map-flat_map, flat_map_none, by_test, any_true, any_from, list_any-map, is_empty-map, from_push, in_map, from_map, from_flat_map, filter_in, from_below, HasNoRepeats-map, HasNoRepeats-flat_map, HasNoRepeats-below}
 use Rattle.roman_model.proofs.ArenaLemmas.{justified_by, justified_is}
@@ -220,11 +220,8 @@ join_once seat L once = grind (arith, HasNoRepeats-below, HasNoRepeats-flat_map,
 abbrev pub left : Sys → ℕ → Sys
 left s k = record { env = s.env; target = s.target; seats = remove s.seats k }
 
-pub length-remove-le : {X : Type 0} (xs : List X) (k : ℕ) → length (remove xs k) ≤ length xs
-length-remove-le xs k = simp (length-append, length-take, length-drop) (omega arith)
-
 pub IsSys-left : (s : Sys) (k : ℕ) → IsSys s → IsSys (left s k)
-IsSys-left s k = IsSys-seats s (remove s.seats k) (λ x i. (x, remove_in x s.seats k i, refl)) (length-remove-le s.seats k)
+IsSys-left s k = IsSys-seats s (remove s.seats k) (λ x i. (x, remove_in x s.seats k i, refl)) (simp (length-append, length-take, length-drop) (omega arith))
 
 pub sizes-left : (s : Sys) (k : ℕ) → sizes_of (left s k) ≡ sizes_without k (sizes_of s)
 sizes-left s k = grind (arith, map-append, take-map, drop-map)
@@ -233,8 +230,8 @@ pub IsPair-without : (s : Sys) (k : ℕ) (p : Pair) → IsPair s p → IsPair (l
 IsPair-without s k p ok =
     IsPair-from (left s k) (without k p) (subst (λ n. IsPairOf n (without k p)) (sym (sizes-left s k)) (IsPairOf-without (sizes_of s) p k (IsPairOf-from s p ok)))
 
-pub states_length : (seats : List Seat) (bs : List ℕ) → AllZip (λ seat b. b < seat.beh.states) seats bs → length bs ≡ length seats
-states_length seats bs h = AllZip-long (λ seat b. b < seat.beh.states) seats bs h
+pub states_long : (s : Sys) (p : Pair) → IsPair s p → length p.bs ≡ length s.seats
+states_long s p pair = AllZip-long (λ seat b. b < seat.beh.states) s.seats p.bs pair.bs
 
 -- the outcomes of the other seats, without the state of the seat that left
 pub outcomes-without : (s : Sys) (k : ℕ) (p : Pair) (a j : ℕ) → outcomes (left s k) (without k p) a j ≡ map (without k) (outcomes s p a (place_before k j))
@@ -254,9 +251,6 @@ all_final-remove (x ∷ seats) [] k seat e l h = absurd (omega arith)
 all_final-remove (x ∷ seats) (b ∷ bs) zero seat e l h = ap (λ y. y && all_final seats bs) (subst (λ (y : Seat). IsTrue (not y.rests || is_final y.beh b)) (sym (same_Some x seat e)) h)
 all_final-remove (x ∷ seats) (b ∷ bs) (suc k) seat e l h = ap (λ y. (not x.rests || is_final x.beh b) && y) (all_final-remove seats bs k seat e (omega arith) h)
 
-pub is_fine-without : (s : Sys) (k : ℕ) (seat : Seat) (p : Pair) → slice_get s.seats k ≡ Some seat → IsPair s p → IsTrue (may_go k seat p) → is_fine s p ≡ is_fine (left s k) (without k p)
-is_fine-without s k seat p seated ok goes = grind (arith, all_final-remove, slice_get_within, states_length)
-
 pub die_beaten : (s : Sys) (k : ℕ) (seat : Seat) (gone lost : Pair → Bool) → ((q : Pair) → IsTrue (gone q) → IsTrue (may_go k seat q) → IsTrue (lost (without k q))) →
     (p : Pair) (a j : ℕ) → IsTrue (may_go k seat p) → IsTrue (is_beaten (arena s) gone p a (place_before k j)) → IsTrue (is_beaten (arena (left s k)) lost (without k p) a j)
 die_beaten s k seat gone lost carries p a j goes h = grind (arith, any_from, any_true, is_empty-map, list_any-map, outcomes-without, or_cases, or_left, or_right, outcome_keeps)
@@ -264,7 +258,7 @@ die_beaten s k seat gone lost carries p a j goes h = grind (arith, any_from, any
 pub die_justified : (s : Sys) (k : ℕ) (seat : Seat) (gone lost : Pair → Bool) → slice_get s.seats k ≡ Some seat →
     ((q : Pair) → IsTrue (gone q) → IsTrue (may_go k seat q) → IsTrue (lost (without k q))) →
     (p : Pair) → IsPair s p → IsTrue (may_go k seat p) → (reason : Reason) → IsTrue (is_justified (arena s) gone p reason) → IsTrue (is_justified (arena (left s k)) lost (without k p) reason)
-die_justified s k seat gone lost seated carries p ok goes Final h = ap not (sym (is_fine-without s k seat p seated ok goes)) ∙ h
+die_justified s k seat gone lost seated carries p ok goes Final h = ap not (sym (grind (arith, all_final-remove, slice_get_within, states_long))) ∙ h
 die_justified s k seat gone lost seated carries p ok goes (Act a) h =
     let within : k < length s.seats = slice_get_within s.seats k seat seated in
     let shorter : suc (length (remove s.seats k)) ≡ length s.seats = length-remove s.seats k within in
@@ -320,3 +314,7 @@ renaming_keeps (Freeze k) s L ok can are order = search (rules, IsPair-turned, I
 renaming_keeps (Thaw k) s L ok can are order = grind (arith, IsPair-turned, (IsSys-turned s k false ok), (new_same s (turned s k false)), (order_new (arena s) L order), replay_order, (turned s k false))
 renaming_keeps (Join seat) s L ok can are order = grind (arith, (IsSys-joined s seat ok can.0 can.1), (join_entries s seat L are), join_once, (joined s seat), (new_from_once (joined s seat)), (new_once (arena s) (system_is_same s)), (order_new (arena s) L order), (replay_order (arena (joined s seat)) (rename (Join seat) L)), (system_is_same s))
 renaming_keeps (Die k seat) s L ok can are order = grind (arith, (IsSys-left s k ok), (die_entries s k seat L are), die_order, (left s k), replay_whole)
+
+-- a system after a change is well formed
+pub IsSys-after : (change : Change) (s : Sys) → IsSys s → CanChange change s → IsSys (after change s)
+IsSys-after change s ok can = (renaming_keeps change s [] ok can (λ x none. absurd none) tt).system

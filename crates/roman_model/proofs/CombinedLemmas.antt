@@ -1,6 +1,6 @@
 -- The combined target stands for several targets: its steps and final states are those of the members, and so are its ND-simulations.
-use Rattle.roman_model.proofs.Common.{◌≡◌, ℕ, ◌<◌, ◌==◌, not, ◌&&◌, ◌||◌, List, [], ◌∷◌, map, length, Option, Some, None, IsTrue, filter, slice_get, slice_index, slice_set, inl, inr, refl, sym, ap, ◌∙◌, subst, arith, ◌≤◌, Bool, nat_lt, list_any, false≢true, and_parts, and_from, eqb-true, eq-eqb, not_from_false, not-true, ltb-true, lt-ltb, length-map, same_Some, slice_get_within, get_or_from_slice_get, IsIn, below, is_empty, product_of, Env, Beh, Seat, has_triple, has_move, IsEnv, IsBeh, SStep, is_final, all_final, IsSys, Allows, IsDeterministic, beh_next, same_numbers, AreBelow, states_number, states_at, Request, Several, of_one, are_final, CoupleAll, ServesAll, MeetsAll, GreatAll, has_triple_on, has_move_on, targets_go, target_sizes, combined_start, combined_seat, all_requests, combined, IsSeveral, stands_in, uses, requests_of, member_goes, combined_beh, CombinedIsAll, MAX_SERVICES, Couple, couple, Serves, Meets, GreatCouple}
-use Rattle.roman_model.proofs.Lists.{get_in, from_get_map, get_map, index_set, in_get, same_test, in_map, in_flat_map, in_filter, any_true, any_from, in_not_empty, not_empty_in, in_below, from_map, filter_in}
+use Rattle.roman_model.proofs.Common.{◌≡◌, ℕ, ◌<◌, ◌==◌, not, ◌&&◌, List, [], ◌∷◌, map, length, Option, Some, None, IsTrue, filter, slice_get, slice_index, slice_set, inl, inr, refl, sym, ap, ◌∙◌, subst, arith, ◌≤◌, Bool, nat_lt, list_any, false≢true, and_parts, and_from, eqb-true, eq-eqb, not_from_false, not-true, ltb-true, lt-ltb, length-map, same_Some, slice_get_within, get_or_from_slice_get, IsIn, below, is_empty, product_of, Env, Beh, Seat, has_triple, has_move, IsEnv, IsBeh, SStep, is_final, all_final, IsSys, Allows, IsDeterministic, beh_next, same_numbers, AreBelow, states_number, states_at, Request, Several, of_one, are_final, CoupleAll, ServesAll, MeetsAll, GreatAll, has_triple_on, has_move_on, targets_go, target_sizes, combined_start, combined_seat, all_requests, combined, IsSeveral, stands_in, uses, requests_of, member_goes, combined_beh, CombinedIsAll, MAX_SERVICES, Couple, couple, Serves, Meets, GreatCouple, get_or-set_same}
+use Rattle.roman_model.proofs.Lists.{get_in, from_get_map, get_map, in_get, same_test, in_map, in_flat_map, in_filter, any_true, any_from, in_not_empty, not_empty_in, in_below, from_map, filter_in}
 use Rattle.roman_model.proofs.SystemLemmas.{number_listed, move_in, same_numbers_is, same_numbers_itself, triple_in_range, move_in_range, in_beh_next, from_beh_next}
 use Rattle.roman_model.proofs.NumberLemmas.{AreBelow-length, AreBelow-at, AreBelow-set, states_number_below, states_at-number, states_number-at}
 use Rattle.roman_model.proofs.MadeLemmas.{move_passes, from_made_triple, made_triple, from_made_move, made_move, from_made_final, made_final, IsEnv-made, IsBeh-made}
@@ -136,7 +136,7 @@ combined_target_goes w t e n t' r target ok l at member goes = let (hb, he, ha, 
     let below : AreBelow (target_sizes w.targets) (slice_set (states_of w t) r.target t') = member_below w t r.target target t' l member hb' in
     let back : states_of w (number_of w (slice_set (states_of w t) r.target t')) ≡ slice_set (states_of w t) r.target t' = grind (arith, states_at-number) in
     let within : r.target < length (states_of w t) = grind (arith, AreBelow-length, AreBelow-at, length-map, slice_get_within) in
-    let there : slice_index (slice_set (states_of w t) r.target t') r.target ≡ t' = index_set (states_of w t) r.target t' within in
+    let there : slice_index (slice_set (states_of w t) r.target t') r.target ≡ t' = get_or-set_same (states_of w t) r.target t' 0 within in
     let passes : IsTrue (member_goes (Some target) r.target r.action (states_of w t) e (slice_set (states_of w t) r.target t')) = grind (arith, same_numbers_itself) in
     made_move w.env.states (length (all_requests w)) (total w) (combined_start w.targets)
     (λ t. are_final w.targets (states_of w t)) (λ t e n t'. targets_go w.targets (slice_get (all_requests w) n) (states_of w t) e (states_of w t')) t e n

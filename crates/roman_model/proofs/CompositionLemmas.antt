@@ -1,6 +1,6 @@
 -- A system as an arena, the greatest ND-simulation, complete removal lists, and the offers.
-use Rattle.roman_model.proofs.Common.{◌≡◌, ◌≢◌, ℕ, ◌<◌, Bool, not, List, [], map, length, IsTrue, IsFalse, filter, slice_set, refl, sym, subst, arith, rules, zero, suc, ◌+◌, ◌≤◌, ◌&&◌, ◌∷◌, ◌++◌, flat_map, append_assoc, append-nil, length-append, both_ways, or_cases, or_left, or_right, not-true, not-false, not_from_true, not_from_false, and_from, eq-eqb, or_from, and_parts, slice_get_within, IsIn, Sys, Pair, IsSys, IsPair, SStep, is_final, all_final, pairs, outcomes, is_allowed, is_fine, arena, Entry, is_listed, is_justified, IsOrder, loses, mask, Couple, couple, Serves, Meets, GreatCouple, Great, IsNdSim, AreEntries, IsComplete, OrderCompletes, is_related, offers, OffersAreGenerator, Reason, Final, Act, reasons, list_any}
-use Rattle.roman_model.proofs.Lists.{by_test, same_test, in_map, from_map, in_filter, filter_in, ne_not_empty, not_empty_in, not_empty_ne, in_not_empty, none_from, any_true, any_false, in_flat_map, from_flat_map, from_push}
+use Rattle.roman_model.proofs.Common.{◌≡◌, ◌≢◌, ℕ, ◌<◌, Bool, not, List, [], map, length, IsTrue, IsFalse, filter, slice_set, refl, sym, subst, arith, rules, zero, suc, ◌+◌, ◌≤◌, ◌&&◌, ◌∷◌, ◌++◌, flat_map, append_assoc, append-nil, length-append, both_ways, or_cases, or_left, or_right, not-true, not-false, not_from_true, not_from_false, and_from, eq-eqb, or_from, and_parts, slice_get_within, IsIn, Sys, Pair, IsSys, IsPair, SStep, is_final, all_final, pairs, outcomes, is_allowed, is_fine, arena, Entry, is_listed, is_justified, IsOrder, loses, Couple, couple, Serves, Meets, GreatCouple, Great, IsNdSim, AreEntries, IsComplete, OrderCompletes, is_related, offers, OffersAreGenerator, Reason, Final, Act, reasons, list_any, Counts, related_count}
+use Rattle.roman_model.proofs.Lists.{by_test, same_test, HasNoRepeats-filter, in_map, from_map, in_filter, filter_in, ne_not_empty, not_empty_in, not_empty_ne, in_not_empty, none_from, any_true, any_false, in_flat_map, from_flat_map, from_push}
 use Rattle.roman_model.proofs.SystemLemmas.{same_pair_is, in_pairs, from_pairs, pairs_once, outcome_in, from_outcome, outcome_seat, outcome_pair, allowed_in, from_allowed, allowed_in_range, same_numbers_itself}
 use Rattle.roman_model.proofs.ArenaLemmas.{IsSame, IsArena, Survives, survives_more, survivor_within, mask_not_empty, unallowed_unjustified, unbeaten_is, in_mask, from_mask, mask_same, reason_in}
 use Rattle.roman_model.proofs.OrderLemmas.{listed_dead, order_push, order_fits}
@@ -180,10 +180,6 @@ pub in_offers : (s : Sys) (p : Pair) (a k : ℕ) → IsSys s → IsTrue (is_allo
     ((q : Pair) → IsIn q (outcomes s p a k) → Great s q) → IsIn k (offers s p a)
 in_offers s p a k ok allowed l some all = search (rules, great_related, in_mask, not_from_true, ne_not_empty, none_from, or_from)
 
--- the masks of a complete list are the offers
-pub mask_is_offers : (s : Sys) (L : List (Entry Pair)) (p : Pair) (a : ℕ) → IsSys s → IsComplete s L → IsPair s p → mask (arena s) (is_listed (arena s) L) p a ≡ offers s p a
-mask_is_offers s L p a ok complete pair = search (rules, complete_listed, mask_same, outcome_pair)
-
 -- The offers are those of the orchestrator generator.
 pub offers_are : OffersAreGenerator
 offers_are s ok = record {
@@ -194,7 +190,7 @@ offers_are s ok = record {
         (l, outcomes_serve s (GreatCouple s) p a k ok some all),
     λ h. grind (arith, (serves_outcomes s (GreatCouple s) p a k ok allowed h.1), in_offers),
   );
-  masked = λ L complete p pair a. mask_is_offers s L p a ok complete pair;
+  masked = λ L complete p pair a. (search (rules, complete_listed, mask_same, outcome_pair));
 }
 
 -- at a related pair each allowed action has an offer
@@ -242,3 +238,7 @@ complete_within s (suc n) L ok entries order enough = grind (arith, by_test, can
 -- every removal list can be extended to a complete one
 pub order_goes_on : (s : Sys) (L : List (Entry Pair)) → IsSys s → AreEntries s L → IsOrder (arena s) L → (M : List (Entry Pair)) × IsComplete s (L ++ M)
 order_goes_on s L ok entries order = complete_within s (length (pairs s)) L ok entries order (omega arith)
+
+-- the number of related pairs
+pub related_counted : (s : Sys) → IsSys s → Counts s (Great s) (related_count s)
+related_counted s sys = grind (arith, HasNoRepeats-filter, filter_in, from_pairs, great_related, in_filter, in_pairs, pairs_once, related_great)

@@ -1,5 +1,5 @@
 -- Explanations carry over between arenas whose nodes correspond by a renaming.
-use Rattle.roman_model.proofs.Common.{◌≡◌, ℕ, zero, suc, Bool, ◌&&◌, ◌||◌, List, [], ◌∷◌, map, Option, Some, None, if◌then◌else◌, filter, flat_map, find, option_map, refl, sym, ap, ap₂, ◌∙◌, arith, option_to_list, length-map, map-append, IsIn, below, Arena, Entry, is_among, is_listed, Sys, IsSys, arena, sizes_of, pair_at, numbered, entry_at, entries_before, answer, ready_seats, answers, rests_on, explanation, Reason, Final, Act}
+use Rattle.roman_model.proofs.Common.{◌≡◌, ℕ, zero, suc, Bool, ◌&&◌, ◌||◌, List, [], ◌∷◌, map, Option, Some, None, filter, flat_map, find, option_map, refl, sym, ap, ap₂, ◌∙◌, arith, option_to_list, length-map, map-append, IsIn, below, Arena, Entry, is_among, is_listed, Sys, IsSys, arena, sizes_of, pair_at, numbered, entry_at, entries_before, answer, ready_seats, answers, rests_on, explanation, Reason, Final, Act}
 use Rattle.roman_model.proofs.Lists.{any_same, list_any-map, filter_same, filter-map, from_flat_map, find_some}
 use Rattle.roman_model.proofs.Renames.{Renames, renamed_entry, AreNodes, HaveNodes, among_renamed, listed_renamed}
 use Rattle.roman_model.proofs.NumberedArena.{IsNumber, AreNumbers, numbers_rename}

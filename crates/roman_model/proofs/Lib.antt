@@ -1,5 +1,6 @@
 pub mod Common
 pub mod Lists
+pub mod Ones
 pub mod SystemLemmas
 pub mod ArenaLemmas
 pub mod OrderLemmas

@@ -1,5 +1,5 @@
 -- Lemmas on lists, their elements and places, on numbers below a bound, and on tests.
-use Rattle.roman_model.proofs.Common.{◌≡◌, ◌≢◌, ℕ, zero, suc, ◌+◌, ◌<◌, ◌≤◌, Bool, true, false, cond, ◌&&◌, ◌||◌, ◌⊎◌, List, [], ◌∷◌, ◌++◌, map, length, get_or, Option, Some, None, IsTrue, IsFalse, filter, find, flat_map, sum_by, inl, inr, refl, sym, ap, ap₂, ◌∙◌, subst, arith, add-one, length-append, ◌↔◌, rules, Contains, ◌*◌, append-nil, append_assoc, drop, slice_get, slice_index, slice_set, drop-cons, option_map, list_any, false≢true, both_ways, or_cases, or_parts, or_left, or_right, or_from, and_from, cond-true, cases_eq, cases_order, true≢false, length_push, get_or_push, get_or_append_left, map_push, map-append, length-map, drop_all, get_or-set_same, sum_by-append, sum_by-cons, list_any-append, find-append, filter-append, none-some, same_Some, slice_get-map, slice_get_within, get_or_from_slice_get, slice_get-get_or, IsIn, IsSublist, HasNoRepeats, below, all_below, is_empty, option_or, flat_map-append}
+use Rattle.roman_model.proofs.Common.{◌≡◌, ◌≢◌, ℕ, zero, suc, ◌+◌, ◌<◌, ◌≤◌, Bool, true, false, cond, ◌&&◌, ◌||◌, ◌⊎◌, List, [], ◌∷◌, ◌++◌, map, length, get_or, Option, Some, None, IsTrue, IsFalse, filter, find, flat_map, sum_by, inl, inr, refl, sym, ap, ap₂, ◌∙◌, subst, arith, add-one, length-append, ◌↔◌, rules, Contains, ◌*◌, append-nil, append_assoc, drop, slice_get, drop-cons, option_map, list_any, false≢true, both_ways, or_cases, or_parts, or_left, or_right, or_from, and_from, cond-true, cases_eq, cases_order, true≢false, length_push, get_or_push, get_or_append_left, map_push, map-append, length-map, drop_all, sum_by-append, sum_by-cons, list_any-append, find-append, filter-append, none-some, same_Some, slice_get-map, slice_get_within, get_or_from_slice_get, slice_get-get_or, IsIn, IsSublist, HasNoRepeats, below, all_below, is_empty, option_or, flat_map-append, All, All-contains, take-append-drop, take_all, length-drop, take, ◌-◌}
 
 -- Tests.
 
@@ -408,6 +408,22 @@ there_is (x ∷ xs) (suc k) l = there_is xs k (omega arith)
 pub get_in : {X : Type 0} (xs : List X) (k : ℕ) (x : X) → slice_get xs k ≡ Some x → IsIn x xs
 get_in xs k x e = contains_in xs x (k, slice_get_within xs k x e, get_or_from_slice_get xs k x x e)
 
+-- the element at a place is in the list
+pub in_at : {X : Type 0} (xs : List X) (k : ℕ) (d : X) → k < length xs → IsIn (get_or xs k d) xs
+in_at xs k d l = get_in xs k (get_or xs k d) (slice_get-get_or xs k d l)
+
+-- an element of the first ones is in the list
+pub in_take : {X : Type 0} (n : ℕ) (x : X) (xs : List X) → IsIn x (take n xs) → IsIn x xs
+in_take n x xs i = subst (IsIn x) (take-append-drop n xs) (in_append_left x (take n xs) (drop n xs) i)
+
+-- the elements from a place on, taken by their number
+pub rest_is : {X : Type 0} (xs : List X) (n : ℕ) → take (length xs - n) (drop n xs) ≡ drop n xs
+rest_is xs n = take_all (length xs - n) (drop n xs) (omega (arith, length-drop n xs))
+
+-- a property of all elements holds of each
+pub all_in : {X : Type 0} (P : X → Type 0) (xs : List X) (x : X) → All P xs → IsIn x xs → P x
+all_in P xs x all i = All-contains P xs x all (in_contains xs x i)
+
 pub in_get : {X : Type 0} (xs : List X) (x : X) → IsIn x xs → (k : ℕ) × (slice_get xs k ≡ Some x)
 in_get xs x i = let (k, l, e) = in_contains xs x i in (k, slice_get-get_or xs k x l ∙ ap Some e)
 
@@ -418,9 +434,6 @@ from_get_map f (x ∷ xs) (suc k) y e = from_get_map f xs k y e
 
 pub get_map : {X Y : Type 0} (f : X → Y) (xs : List X) (k : ℕ) (x : X) → slice_get xs k ≡ Some x → slice_get (map f xs) k ≡ Some (f x)
 get_map f xs k x e = slice_get-map f xs k ∙ ap (option_map f) e
-
-pub index_set : (bs : List ℕ) (k b : ℕ) → k < length bs → slice_index (slice_set bs k b) k ≡ b
-index_set bs k b l = get_or-set_same bs k b 0 l
 
 -- the numbers from k on
 pub from_place : (n k : ℕ) → k < n → drop k (below n) ≡ k ∷ drop (k + 1) (below n)

@@ -1,5 +1,5 @@
 -- Numbers of lists of states and of pairs: bounds, and the change of a number where a state changes, comes or goes.
-use Rattle.roman_model.proofs.Common.{Some, slice_get, ◌≡◌, ℕ, zero, suc, ◌+◌, ◌*◌, ◌%◌, ◌<◌, List, [], ◌∷◌, ◌++◌, map, length, take, drop, slice_index, slice_set, remove, refl, sym, ap, ◌∙◌, arith, add-one, rules, ◌/◌, AllZip-long, AllZip, mul-add-lt, div-mul-add, mod-mul-add, div_below, mod_below, product_of, Seat, Sys, Pair, IsPair, Sizes, sizes_of, AreBelow, grown_sizes, sizes_without, count, states_number, states_at, number, pair_at, IsPairOf, NumbersArePairs, grown, without, number_without, AllZip-get_or, get_or_from_slice_get}
+use Rattle.roman_model.proofs.Common.{Some, slice_get, ◌≡◌, ℕ, zero, suc, ◌+◌, ◌*◌, ◌%◌, ◌<◌, List, [], ◌∷◌, ◌++◌, map, length, take, drop, slice_index, slice_set, remove, refl, sym, ap, ◌∙◌, arith, add-one, rules, ◌/◌, AllZip-long, AllZip, mul-add-lt, div-mul-add, mod-mul-add, div_below, mod_below, product_of, Seat, Sys, Pair, IsPair, Sizes, sizes_of, AreBelow, grown_sizes, sizes_without, count, states_number, states_at, number, pair_at, IsPairOf, NumbersArePairs, grown, without, number_without, AllZip-get_or, get_or_from_slice_get, div-lt_iff_lt-mul, IsSys, same_from_place}
 use Rattle.roman_model.proofs.Lists.{get_map}
 
 pub AreBelow-length : (sizes bs : List ℕ) → AreBelow sizes bs → length bs ≡ length sizes
@@ -22,6 +22,10 @@ states_at-number _ _ h = elim h [ ]
 factor_pos : (i a b : ℕ) → i < a * b → 0 < b
 factor_pos i a zero h = omega arith
 factor_pos i a (suc b) h = omega arith
+
+-- a factor can be cancelled
+pub mul_cancel : (x y w : ℕ) → 0 < w → x * w ≡ y * w → x ≡ y
+mul_cancel x y w some e = (same_from_place x 0 y 0 w some some (ap (λ n. n + 0) e)).0
 
 pub AreBelow-at : (sizes : List ℕ) (i : ℕ) → i < product_of sizes → AreBelow sizes (states_at sizes i)
 AreBelow-at [] i h = tt
@@ -233,6 +237,12 @@ size_at seats k seat e = grind (arith, get_or_from_slice_get, (get_map (λ x. x.
 
 pub IsPairOf-from : (s : Sys) (p : Pair) → IsPair s p → IsPairOf (sizes_of s) p
 IsPairOf-from s p ok = record { t = ok.t; e = ok.e; bs = states_below s.seats p.bs ok.bs }
+
+-- the number of a pair of the system is below their count
+pub pair_number : (s : Sys) (i : ℕ) → IsSys s → IsPair s (pair_at (sizes_of s) i) → i < count (sizes_of s)
+pair_number s i sys pair =
+    let seats : 0 < product_of (sizes_of s).seats = factor_pos _ (s.target.states * s.env.states) _ (number_below (sizes_of s) _ (IsPairOf-from s _ pair)) in
+    (div-lt_iff_lt-mul seats).0 ((div-lt_iff_lt-mul sys.env.states.0).0 pair.t)
 
 pub IsPair-from : (s : Sys) (p : Pair) → IsPairOf (sizes_of s) p → IsPair s p
 IsPair-from s p ok = record { t = ok.t; e = ok.e; bs = below_states s.seats p.bs ok.bs }

@@ -1,5 +1,5 @@
 -- Removal lists and replays over any arena: their entries by their place, and sums over them.
-use Rattle.roman_model.proofs.Common.{◌≡◌, ◌≤◌, ◌||◌, List, [], ◌∷◌, ◌++◌, map, length, IsTrue, IsFalse, inl, inr, refl, sym, subst, arith, ℕ, ◌+◌, ◌<◌, ◌&&◌, get_or, take, sum_by, ◌∙◌, count_by, take-append-drop, false≢true, both_ways, or_cases, or_parts, or_left, or_right, or_from, cond-true, length-map, drop_more, IsIn, IsSublist, HasNoRepeats, below, Arena, Entry, is_among, is_listed, is_justified, IsOrderFrom, IsOrder, AreNew, replay_from, replay, back, fall, readings, sum_by-append, length-filter, length-flat_map}
+use Rattle.roman_model.proofs.Common.{◌≡◌, ◌≤◌, ◌||◌, List, [], ◌∷◌, ◌++◌, map, length, IsTrue, IsFalse, inl, inr, refl, sym, subst, arith, ℕ, ◌+◌, ◌<◌, ◌&&◌, get_or, take, sum_by, count_by, take-append-drop, false≢true, both_ways, or_cases, or_parts, or_left, or_right, or_from, cond-true, length-map, drop_more, IsIn, IsSublist, HasNoRepeats, below, Arena, Entry, is_among, is_listed, is_justified, IsOrderFrom, IsOrder, AreNew, replay_from, replay, back, fall, readings, sum_by-append, length-filter, length-flat_map}
 use Rattle.roman_model.proofs.Lists.{by_test, from_map, sublist_skip, no_longer, filter-map, filter-flat_map, sum_by_same, sum_by_within}
 use Rattle.roman_model.proofs.ArenaLemmas.{IsSame, Survives, listed_in, justified_more, unjustified, justified_same}
 

@@ -1,5 +1,5 @@
 -- The plan of the choices costs least of all plans at a related pair, and its cost is computed one action, one seat and one outcome at a time.
-use Rattle.roman_model.proofs.Common.{cases_lt, cond-false, leb-true, leb-false, ◌≡◌, ◌≢◌, ℕ, zero, suc, ◌+◌, ◌-◌, ◌<◌, ◌≤◌, Bool, true, false, cond, ◌⊎◌, List, [], ◌∷◌, ◌++◌, IsTrue, filter, nat_le, inl, inr, refl, sym, ap, ap₂, ◌∙◌, subst, arith, rules, ◌*◌, map, max, IsIn, below, Sys, Pair, IsSys, IsPair, outcomes, is_allowed, Great, offers, Costs, max_over, allowed_actions, least_from, through, least, choice, Plan, Leaf, Node, IsPlan, worst, first_least, chosen, IsChoice, PlansCostLeast, least_at, le-max_left, le-max_right, max-le, sizes_of, pair_at, number, count, numbered}
+use Rattle.roman_model.proofs.Common.{cases_lt, cond-false, leb-true, leb-false, ◌≡◌, ◌≢◌, ℕ, zero, suc, ◌+◌, ◌<◌, ◌≤◌, Bool, true, false, cond, ◌⊎◌, List, [], ◌∷◌, ◌++◌, IsTrue, filter, nat_le, inl, inr, refl, sym, ap, ap₂, ◌∙◌, subst, arith, rules, ◌*◌, map, max, IsIn, below, Sys, Pair, IsSys, IsPair, outcomes, is_allowed, Great, offers, Costs, max_over, allowed_actions, least_from, through, least, choice, Plan, Leaf, Node, IsPlan, worst, first_least, chosen, IsChoice, PlansCostLeast, least_at, le-max_left, le-max_right, max-le, sizes_of, pair_at, number, count, numbered}
 use Rattle.roman_model.proofs.Lists.{by_test, filter_in, from_below, from_push}
 use Rattle.roman_model.proofs.SystemLemmas.{outcome_pair}
 use Rattle.roman_model.proofs.CompositionLemmas.{offer_is, related_offers}
@@ -52,9 +52,6 @@ rising_filter p (x ∷ xs) rises =
     let rest : IsRising (filter p xs) = rising_filter p xs rises.1 in
     elim (p x) as (λ b. IsRising (cond b (x ∷ filter p xs) (filter p xs))) [ true ↦ (λ y i. rises.0 y (filter_in p y xs i).0, rest) | false ↦ rest ]
 
-rising_offers : (s : Sys) (p : Pair) (a : ℕ) → IsRising (offers s p a)
-rising_offers s p a = grind (arith, rising_below, rising_filter)
-
 -- The first least element.
 
 -- k costs less than j, or costs the same and isn't greater
@@ -85,7 +82,7 @@ first_least_is f [] rises some = absurd (some refl)
 first_least_is f (x ∷ xs) rises some = least_from_is f x xs rises
 
 pub choice_is : (s : Sys) (C : Costs) (h : ℕ) (p : Pair) (a : ℕ) → IsSys s → Great s p → IsTrue (is_allowed s p a) → IsChoice s C h p a (choice s C h p a)
-choice_is s C h p a ok great allowed = grind (arith, (first_least_is (through s C (least s C h) p a) (offers s p a) (rising_offers s p a) (related_offers s p a ok great allowed)))
+choice_is s C h p a ok great allowed = grind (arith, (first_least_is (through s C (least s C h) p a) (offers s p a) (grind (arith, rising_below, rising_filter)) (related_offers s p a ok great allowed)))
 
 -- Plans.
 

@@ -1,5 +1,5 @@
 -- Removal lists, masks and depths carry over between arenas whose nodes correspond by a renaming.
-use Rattle.roman_model.proofs.Common.{◌↔◌, ◌≡◌, ℕ, zero, suc, Bool, true, false, not, ◌&&◌, ◌||◌, List, [], ◌∷◌, map, if◌then◌else◌, refl, ap, ap₂, ◌∙◌, arith, list_any, IsIn, below, Arena, Entry, is_among, is_listed, is_justified, mask, IsOrderFrom, IsOrder, replay_from, replay, loses, Reason, Final, Act}
+use Rattle.roman_model.proofs.Common.{◌↔◌, ◌≡◌, ℕ, zero, suc, Bool, true, false, not, ◌||◌, List, [], ◌∷◌, map, if◌then◌else◌, refl, ap, ap₂, ◌∙◌, arith, list_any, IsIn, below, Arena, Entry, is_among, is_listed, is_justified, mask, IsOrderFrom, IsOrder, replay_from, replay, loses, Reason, Final, Act}
 use Rattle.roman_model.proofs.Lists.{any_same, list_any-map}
 
 -- f maps nodes of A to nodes of B, and the arenas agree on each of these nodes and its image

@@ -148,10 +148,6 @@ in_beh_prev env beh b e a b' ok h = grind (arith, (in_below beh.states b (move_i
 pub from_beh_prev : (beh : Beh) (b e a b' : ℕ) → IsIn b (beh_prev beh b' e a) → IsTrue (has_move beh b e a b')
 from_beh_prev beh b e a b' i = (filter_in (λ c. has_move beh c e a b') b (below beh.states) i).1
 
--- The seat at a place of a list of seats.
-pub seat_in : (seats : List Seat) (k : ℕ) (seat : Seat) → slice_get seats k ≡ Some seat → IsIn seat seats
-seat_in seats k seat e = get_in seats k seat e
-
 -- Outcomes are the ends of joint steps.
 
 pub in_moved : (s : Sys) (p : Pair) (a k : ℕ) (states : List ℕ) (t' e' b' : ℕ) → IsSys s → TStep s p.t p.e a t' e' → IsIn b' states →
@@ -165,7 +161,7 @@ in_moved s p a k states t' e' b' ok step i =
 
 pub outcome_in : (s : Sys) (p : Pair) (a k t' e' : ℕ) (bs' : List ℕ) → IsSys s → TStep s p.t p.e a t' e' → SStep s p.bs p.e a k bs' e' →
     IsIn (record { t = t'; e = e'; bs = bs' }) (outcomes s p a k)
-outcome_in s p a k t' e' bs' ok step r = grind (arith, (in_seat_next s.env r.seat (slice_index p.bs k) p.e a r.to (ok.seats r.seat (seat_in s.seats k r.seat r.seated)) r.ready r.moves), in_moved)
+outcome_in s p a k t' e' bs' ok step r = grind (arith, (in_seat_next s.env r.seat (slice_index p.bs k) p.e a r.to (ok.seats r.seat (get_in s.seats k r.seat r.seated)) r.ready r.moves), in_moved)
 
 pub from_outcome : (s : Sys) (p : Pair) (a k : ℕ) (q : Pair) → IsIn q (outcomes s p a k) → TStep s p.t p.e a q.t q.e × SStep s p.bs p.e a k q.bs q.e
 from_outcome s p a k q i = grind (arith, from_beh_next, from_env_next, from_flat_map, from_map, from_seat_next)
@@ -187,7 +183,7 @@ outcome_pair s p a k q ok pair i =
       e = (triple_in_range s.env p.e a q.e ok.env step.0).2;
       bs = subst (λ bs. AllZip (λ (seat : Seat) (b : ℕ). b < seat.beh.states) s.seats bs) (sym r.is)
           (states_set s.seats p.bs k r.to r.seat pair.bs r.seated
-          (move_in_range s.env r.seat.beh (slice_index p.bs k) p.e a r.to (ok.seats r.seat (seat_in s.seats k r.seat r.seated)) r.moves).3);
+          (move_in_range s.env r.seat.beh (slice_index p.bs k) p.e a r.to (ok.seats r.seat (get_in s.seats k r.seat r.seated)) r.moves).3);
     }
 
 -- Allowed actions.

@@ -15,6 +15,9 @@ pub const MAX_BEHAVIOURS: u8 = 32;
 /// The greatest number of services in a system.
 pub const MAX_SERVICES: u8 = 32;
 
+/// The number of places of a table with one for each service.
+pub const PLACES: usize = MAX_SERVICES as usize;
+
 /// The greatest limit on cells, which are pairs times actions, that a document may set.
 pub const MAX_CELLS: u32 = 16_777_216;
 

@@ -2,7 +2,7 @@
 pub use Rattle.std.proofs.Common.{All, Bool, Err, IfOk, IsFalse, IsSome, IsTrue, List, MatchOption, None, Ok, Option, Result, Some, [], add-one, ap, append_assoc, ap₂, arith, cond, drop, false, filter, flat_map, get_or, inl, inr, is_some, length, map, not, refl, slice_get, slice_index, slice_set, subst, suc, sym, take, true, zero, ℕ, ◌%◌, ◌&&◌, ◌*◌, ◌++◌, ◌+◌, ◌<◌, ◌==◌, ◌^◌, ◌∙◌, ◌∷◌, ◌≡◌, ◌≤◌}
 pub use Rattle.std.proofs.lemmas.Bool.{and_from, and_parts, eq-eqb, eqb-true, false≢true, le-leb, le-ltb, lt-ltb, ltb-false, ne_eqb, or_from, true≢false}
 pub use Rattle.std.proofs.lemmas.List.{append-nil, get_or-map, length-map, map-append, take_all, take_more}
-pub use Rattle.std.proofs.lemmas.List.Elements.{All-push}
+pub use Rattle.std.proofs.lemmas.List.Elements.{All-more}
 pub use Rattle.std.proofs.lemmas.List.Folds.{list_any-append}
 pub use Rattle.std.proofs.lemmas.Nat.{mod-mul-add}
 pub use Rattle.std.proofs.lemmas.Option.{get_or_from_slice_get, none-some, same_Some, slice_get-get_or, slice_get-map}
@@ -12,7 +12,7 @@ pub use Rattle.std.specs.Option.{SomeIff, option_map}
 pub use Rattle.std.specs.Prelude.{if◌then◌else◌, slice_index_or}
 pub use Rattle.roman_guard.proofs.CallerLemmas.{states_of-single}
 pub use Rattle.roman_guard.specs.Meaning.{states_of}
-pub use Rattle.roman_model.proofs.CallerLemmas.{IsBeh-made, IsMemberStep, IsPairOf-at, any_false, any_from, any_true, beh_from_same, combined_system, combined_target_goes, env_from_same, filter_in, filter_same, flat_map_row, flat_map_same_in, from_beh_next, from_below, from_combined_target, from_env_next, from_flat_map, from_made_move, from_map, get_in, in_beh_next, in_below, in_env_next, in_flat_map, in_map, length-below, length-states_at, listed_number, made_move, move_passes, move_test, number_listed, same_test, stands_uses, states_number-at, target_size_at, triple_in_range}
+pub use Rattle.roman_model.proofs.CallerLemmas.{IsBeh-made, IsMemberStep, IsPairOf-at, all_in, any_false, any_from, any_true, beh_from_same, combined_system, combined_target_goes, env_from_same, filter_in, filter_same, flat_map_row, flat_map_same_in, from_beh_next, from_below, from_combined_target, from_env_next, from_flat_map, from_made_move, from_map, get_in, in_at, in_beh_next, in_below, in_env_next, in_flat_map, in_map, length-below, length-states_at, listed_number, made_move, move_passes, move_test, number_listed, same_test, stands_uses, states_number-at, target_size_at, triple_in_range}
 pub use Rattle.roman_model.specs.Combined.{IsSeveral, all_requests, combined, combined_beh, combined_env, combined_start, combined_target, has_move_on, has_triple_on, requests_of, stands_in, target_sizes, targets_go, uses}
 pub use Rattle.roman_model.specs.Lists.{IsIn, below, is_empty, product_of}
 pub use Rattle.roman_model.specs.Made.{beh_from}

@@ -1,14 +1,5 @@
 -- Known targets: their machines are in range and deterministic, and their sizes are those of a shape.
-use Rattle.roman_multi.proofs.Common.{◌≡◌, ℕ, zero, suc, ◌+◌, ◌<◌, ◌≤◌, List, [], ◌∷◌, ◌++◌, map, length, take, get_or, All, Some, slice_get, slice_index, inl, inr, refl, sym, ap, ◌∙◌, subst, arith, AllZip, take_more, length-map, map-append, slice_get-get_or, slice_get-map, IsIn, product_of, Env, Beh, IsEnv, IsBeh, IsDeterministic, Several, target_sizes, IsSeveral, MAX_STATES, MAX_ACTIONS, from_map, target_size_at, NamedEnv, IsTarget, IsOver-states, machines, requests_in, Named, All-push, option_map}
-
-pub all_in : {X : Type 0} (P : X → Type 0) (xs : List X) (x : X) → All P xs → IsIn x xs → P x
-all_in P [] x all i = absurd i
-all_in P (y ∷ xs) x all (inl same) = subst P (sym same) (all 0 y (omega arith))
-all_in P (y ∷ xs) x all (inr i) = all_in P xs x (λ k d l. all (suc k) d (omega arith)) i
-
--- a property of the first elements holds with one more
-pub known_more : {X : Type 0} (P : X → Type 0) (xs : List X) (i : ℕ) (d : X) → All P (take i xs) → i < length xs → P (get_or xs i d) → All P (take (i + 1) xs)
-known_more P xs i d all l here = subst (All P) (sym (take_more xs i d l)) (All-push P (take i xs) (get_or xs i d) all here)
+use Rattle.roman_multi.proofs.Common.{◌≡◌, ℕ, zero, suc, ◌+◌, ◌<◌, ◌≤◌, List, [], ◌∷◌, ◌++◌, map, length, take, get_or, All, Some, slice_get, slice_index, inl, inr, refl, sym, ap, ◌∙◌, subst, arith, AllZip, take_more, length-map, map-append, slice_get-get_or, slice_get-map, IsIn, product_of, Env, Beh, IsEnv, IsBeh, IsDeterministic, Several, target_sizes, IsSeveral, MAX_STATES, MAX_ACTIONS, from_map, target_size_at, NamedEnv, IsTarget, IsOver-states, machines, requests_in, Named, option_map, all_in}
 
 -- the machines are in range and deterministic
 pub machines_known : (env : NamedEnv) (targets : List Named) → All (λ named. IsTarget env named.target) targets → (target : Beh) → IsIn target (machines targets) →

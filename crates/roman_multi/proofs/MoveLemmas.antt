@@ -1,7 +1,6 @@
 -- The steps that the loops list are the steps of the combined behaviours, and the requests are the combined actions.
-use Rattle.roman_multi.proofs.Common.{◌≡◌, ℕ, ◌<◌, ◌≤◌, ◌^◌, ◌==◌, ◌&&◌, Bool, List, [], ◌∷◌, map, length, Option, Some, None, IsTrue, flat_map, filter, slice_get, inl, inr, refl, sym, ap, ap₂, ◌∙◌, subst, get_or, arith, All, IsIn, below, Beh, Env, has, has_move, IsBeh, Move, normal_beh, beh_from, Request, listed_beh, AreMoves, move_of, listed_moves, used_at, same_test, any_true, any_from, in_map, from_map, in_flat_map, from_flat_map, in_below, from_below, beh_from_same, listed_number, number_listed, get_in, filter_in, filter_same, flat_map_same_in, move_test, move_passes, stands_uses, length-map, NamedEnv, IsTarget, machines, requests_in, Named, has_filter, states_of, stands_in, uses, requests_of, states_of-single}
+use Rattle.roman_multi.proofs.Common.{◌≡◌, ℕ, ◌<◌, ◌≤◌, ◌^◌, ◌==◌, ◌&&◌, Bool, List, [], ◌∷◌, map, length, Option, Some, None, IsTrue, flat_map, filter, slice_get, inl, inr, refl, sym, ap, ap₂, ◌∙◌, subst, get_or, arith, All, IsIn, below, Beh, Env, has, has_move, IsBeh, Move, normal_beh, beh_from, Request, listed_beh, AreMoves, move_of, listed_moves, used_at, same_test, any_true, any_from, in_map, from_map, in_flat_map, from_flat_map, in_below, from_below, beh_from_same, listed_number, number_listed, get_in, filter_in, filter_same, flat_map_same_in, move_test, move_passes, stands_uses, length-map, NamedEnv, IsTarget, machines, requests_in, Named, has_filter, states_of, stands_in, uses, requests_of, states_of-single, in_at}
 use Rattle.roman_multi.proofs.KnownLemmas.{machines_known}
-use Rattle.roman_multi.proofs.TripleLemmas.{get_or_in}
 
 from_moves : (env_states actions states : ℕ) (next : ℕ → ℕ → ℕ → List ℕ) (x : ℕ × ℕ × ℕ × ℕ) → IsIn x (listed_moves env_states actions states next) →
     (e : ℕ) × (e < env_states) × (x.0 < states) × (x.2 < actions) × (x.1 ≡ 2 ^ e) × IsIn x.3 (next x.0 x.2 e)
@@ -17,12 +16,12 @@ pub moves_in_range : (env_states actions states : ℕ) (next : ℕ → ℕ → �
     ((b n e to : ℕ) → b < states → n < actions → e < env_states → IsIn to (next b n e) → to < states) → AreMoves states actions (listed_moves env_states actions states next)
 moves_in_range env_states actions states next within k d l =
     let x : ℕ × ℕ × ℕ × ℕ = get_or (listed_moves env_states actions states next) k d in
-    let (e, he, hb, hn, is, it) = from_moves env_states actions states next (get_or (listed_moves env_states actions states next) k d) (get_or_in (listed_moves env_states actions states next) k d l) in
+    let (e, he, hb, hn, is, it) = from_moves env_states actions states next (get_or (listed_moves env_states actions states next) k d) (in_at (listed_moves env_states actions states next) k d l) in
     (hb, hn, within x.0 x.2 e x.3 hb hn he it)
 
 -- the numbers that pass the test are below the bound
 pub passing_below : (p : ℕ → Bool) (n : ℕ) → All (λ b. b < n) (filter p (below n))
-passing_below p n k d l = from_below n (get_or (filter p (below n)) k d) (filter_in p (get_or (filter p (below n)) k d) (below n) (get_or_in (filter p (below n)) k d l)).0
+passing_below p n k d l = from_below n (get_or (filter p (below n)) k d) (filter_in p (get_or (filter p (below n)) k d) (below n) (in_at (filter p (below n)) k d l)).0
 
 -- the lists from which a behaviour is made: its final states, and its steps to the next states by each action in each environment state, which are states of it
 pub record AreListsOf (env_states actions states start : ℕ) (final : ℕ → Bool) (goes : ℕ → ℕ → ℕ → ℕ → Bool) (size begin : ℕ) (ends : List ℕ) (moves : List (ℕ × ℕ × ℕ × ℕ)) : Type 0 where
@@ -110,7 +109,7 @@ all_requests_are env targets env_states actions i items known es ns done is =
 pub requests_in_range : (env : NamedEnv) (targets : List Named) (requests : List Request) → requests ≡ requests_in env targets →
     All (λ r. (r.target < length targets) × (r.action < env.env.actions)) requests
 requests_in_range env targets requests is k d l =
-    let i : IsIn (get_or requests k d) (requests_in env targets) = subst (λ rs. IsIn (get_or requests k d) rs) is (get_or_in requests k d l) in
+    let i : IsIn (get_or requests k d) (requests_in env targets) = subst (λ rs. IsIn (get_or requests k d) rs) is (in_at requests k d l) in
     let (p, ip, ir) = from_flat_map (λ i. map (λ a. record { target = i; action = a }) (filter (stands_in (slice_get (machines targets) i)) (below env.env.actions))) (get_or requests k d) (below (length (machines targets))) i in
     let (a, ia, same) = from_map (λ a. record { target = p; action = a }) (get_or requests k d) (filter (stands_in (slice_get (machines targets) p)) (below env.env.actions)) ir in
     let (ib, stands) = filter_in (stands_in (slice_get (machines targets) p)) a (below env.env.actions) ia in

@@ -1,7 +1,6 @@
 -- Lists of words, and the tables of words that are names.
-use Rattle.roman_multi.proofs.Common.{◌≡◌, ℕ, ◌+◌, ◌<◌, List, [], ◌∷◌, ◌++◌, map, length, take, get_or, All, Option, Some, None, IsTrue, IsFalse, is_some, refl, sym, ap, ap₂, ◌∙◌, subst, arith, IsSome, list_any, take_more, length-map, get_or-map, below, none-some, same_Some, is_name, place_of, is_long, stands_before, has_repeats, is_word, SomeIff, any_false}
+use Rattle.roman_multi.proofs.Common.{◌≡◌, ℕ, ◌+◌, ◌<◌, List, [], ◌∷◌, ◌++◌, map, length, take, get_or, All, Option, Some, None, IsTrue, IsFalse, is_some, refl, sym, ap, ap₂, ◌∙◌, subst, arith, IsSome, list_any, take_more, length-map, get_or-map, below, none-some, same_Some, is_name, place_of, is_long, stands_before, has_repeats, is_word, SomeIff, any_false, in_at}
 use Rattle.roman_multi.proofs.ListLemmas.{none_more, any_at}
-use Rattle.roman_multi.proofs.TripleLemmas.{get_or_in}
 use Rattle.roman_multi.proofs.WordLemmas.{word_is_name}
 
 -- a word that isn't too long is a name
@@ -12,7 +11,7 @@ read_is_name items words i w all short l is =
     (subst (λ v. IsFalse (is_long v)) (get_or-map items words i w [] l ∙ ap items (sym is)) (short_at (map items words) i short (subst (λ n. i < n) (sym (length-map words items)) l)))
   where
     short_at : (names : List (List ℕ)) (i : ℕ) → IsFalse (list_any is_long names) → i < length names → IsFalse (is_long (get_or names i []))
-    short_at names i short l = any_false is_long (get_or names i []) names short (get_or_in names i [] l)
+    short_at names i short l = any_false is_long (get_or names i []) names short (in_at names i [] l)
 
 pub made_name : (o : Option (List ℕ)) (bytes : List ℕ) → SomeIff o (IsTrue (is_name bytes)) bytes → IsTrue (is_name bytes) → IsSome o
 made_name None bytes h t = absurd (h t)

@@ -1,5 +1,5 @@
 -- The triples that the loops list are the triples of the combined environment.
-use Rattle.roman_multi.proofs.Common.{◌≡◌, ℕ, zero, suc, ◌<◌, ◌==◌, ◌&&◌, List, [], ◌∷◌, map, length, get_or, Option, Some, None, IsTrue, slice_get, inl, inr, refl, sym, ap, ap₂, ◌∙◌, subst, arith, false≢true, and_parts, and_from, eq-eqb, eqb-true, IsIn, Env, IsEnv, Triple, has_triple, Request, next_on, listed_triples, same_test, any_true, any_from, in_map, from_map, in_flat_map, from_flat_map, in_below, from_below, triple_in_range, in_env_next, from_env_next, env_from_same, normal_env, combined_env, has_triple_on, triple_of, listed_env, AreTriples}
+use Rattle.roman_multi.proofs.Common.{◌≡◌, ℕ, ◌<◌, ◌==◌, ◌&&◌, List, [], ◌∷◌, map, length, get_or, Option, Some, None, IsTrue, slice_get, refl, sym, ap, ap₂, ◌∙◌, subst, arith, false≢true, and_parts, and_from, eq-eqb, eqb-true, IsIn, Env, IsEnv, Triple, has_triple, Request, next_on, listed_triples, same_test, any_true, any_from, in_map, from_map, in_flat_map, from_flat_map, in_below, from_below, triple_in_range, in_env_next, from_env_next, env_from_same, normal_env, combined_env, has_triple_on, triple_of, listed_env, AreTriples, in_at}
 
 from_next_on : (env : Env) (e : ℕ) (o : Option Request) (to : ℕ) → IsIn to (next_on env e o) → IsTrue (has_triple_on env o e to)
 from_next_on env e None to i = absurd i
@@ -42,18 +42,13 @@ combined_env_is env requests ok =
         subst (λ k. IsTrue (has_triple_on env (slice_get requests n) e k)) e2
         (subst (λ k. IsTrue (has_triple_on env (slice_get requests k) e y.2)) e1 (subst (λ k. IsTrue (has_triple_on env (slice_get requests y.1) k y.2)) e0 own))
 
-pub get_or_in : {X : Type 0} (xs : List X) (k : ℕ) (d : X) → k < length xs → IsIn (get_or xs k d) xs
-get_or_in [] k d l = absurd (omega arith)
-get_or_in (x ∷ xs) zero d l = inl refl
-get_or_in (x ∷ xs) (suc k) d l = inr (get_or_in xs k d (omega arith))
-
 next_in_range : (env : Env) (e : ℕ) (o : Option Request) (to : ℕ) → IsEnv env → IsTrue (has_triple_on env o e to) → to < env.states
 next_in_range env e None to ok t = absurd (false≢true t)
 next_in_range env e (Some r) to ok t = (triple_in_range env e r.action to ok t).2
 
 pub listed_in_range : (env : Env) (requests : List Request) → IsEnv env → AreTriples env.states (length requests) (listed_triples env requests)
 listed_in_range env requests ok k d l =
-    let i : IsIn (get_or (listed_triples env requests) k d) (listed_triples env requests) = get_or_in (listed_triples env requests) k d l in
+    let i : IsIn (get_or (listed_triples env requests) k d) (listed_triples env requests) = in_at (listed_triples env requests) k d l in
     let (he, hn, t) = from_listed env requests (get_or (listed_triples env requests) k d) i in
     (he, hn, next_in_range env (get_or (listed_triples env requests) k d).0 (slice_get requests (get_or (listed_triples env requests) k d).1) (get_or (listed_triples env requests) k d).2 ok t)
 

@@ -53,7 +53,8 @@ fn push_requests(
 ) -> Result<(), AllocError>
     requires states { env_states ≡ target.now.env_states }
     requires actions { actions ≡ target.now.actions }
-    ensures { IfOk result (λ _. requests.new.items ≡ requests.old.items ++ used_by env_states actions target.now.beh place) }
+    ensures { IfOk result (λ _. requests.new.items
+        ≡ requests.old.items ++ used_by env_states actions target.now.beh place) }
 {
     for a in 0..actions {
         if uses(target, env_states, a) {

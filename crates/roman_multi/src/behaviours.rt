@@ -69,7 +69,8 @@ fn push_state(steps: &mut Vec<Move>, member: &Member, b: u8) -> Result<(), Alloc
 #[tactic(auto, using(crate::proofs::ListLemmas::flat_map_begun, crate::proofs::KnownLemmas::over_states))]
 fn moves_of(alloc: Global, member: &Member) -> Result<Vec<Move>, AllocError>
     requires { IsMember member.now }
-    ensures { IfOk result (λ steps. steps.items ≡ listed_moves member.now.env.now.env.states (length member.now.requests.now)
+    ensures { IfOk result (λ steps. steps.items ≡ listed_moves member.now.env.now.env.states
+        (length member.now.requests.now)
         member.now.behaviour.now.beh.states (next_of_member member.now)) }
 {
     let behaviour = member.behaviour;
@@ -139,7 +140,8 @@ pub(crate) fn combine_catalogue(
     requires merge { IsMerge merge.now }
     requires of { All (IsBehaviourOf merge.now.env.now) catalogue.now }
     requires over { IsOverMerge merge.now over.now }
-    ensures { IfOk result (λ made. made.items ≡ map (combined_behaviour merge.now.env.now merge.now.requests.now) catalogue.now) }
+    ensures { IfOk result (λ made. made.items
+        ≡ map (combined_behaviour merge.now.env.now merge.now.requests.now) catalogue.now) }
 {
     let mut made = Vec::with_capacity(alloc, catalogue.len())?;
     for behaviour in catalogue {

@@ -73,7 +73,8 @@ fn combine_parts(
 ) -> Result<Combined, CombineError>
     requires merge { IsMerge merge.now }
     requires catalogue { All (IsBehaviourOf merge.now.env.now) catalogue.now }
-    ensures parts { IfOk result (λ made. plain_combined made ≡ combined_parts merge.now.env.now catalogue.now merge.now.targets.now) }
+    ensures parts { IfOk result (λ made. plain_combined made
+        ≡ combined_parts merge.now.env.now catalogue.now merge.now.targets.now) }
     ensures rules { KeepsRules result (forbidding merge.now.env.now merge.now.targets.now) }
 {
     let names = names_of(alloc, merge)?;

@@ -77,7 +77,8 @@ fn push_state(steps: &mut Vec<Move>, merge: &Merge, t: u8) -> Result<(), AllocEr
 fn moves_of(alloc: Global, merge: &Merge) -> Result<Vec<Move>, AllocError>
     requires { IsMerge merge.now }
     ensures { IfOk result (λ steps. steps.items
-        ≡ listed_moves merge.now.env.now.env.states (length merge.now.requests.now) (state_total merge.now) (next_in merge.now)) }
+        ≡ listed_moves merge.now.env.now.env.states (length merge.now.requests.now) (state_total merge.now)
+        (next_in merge.now)) }
 {
     let mut steps = Vec::new(alloc);
     for t in 0..merge.shape.pairs() as u8 {
@@ -142,7 +143,8 @@ pub(crate) fn combine_target(
     requires merge { IsMerge merge.now }
     requires states { length states ≡ state_total merge.now }
     requires over { IsOverMerge merge.now over.now }
-    ensures { IfOk result (λ made. made ≡ one_target merge.now.env.now merge.now.requests.now merge.now.targets.now states) }
+    ensures { IfOk result (λ made. made
+        ≡ one_target merge.now.env.now merge.now.requests.now merge.now.targets.now states) }
 {
     merge.env.known(); // the environment is well formed
     let finals = finals_of(alloc, merge.targets, merge.shape)?;

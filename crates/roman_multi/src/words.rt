@@ -52,7 +52,8 @@ fn state_word(alloc: Global, merge: &Merge, t: u32) -> Result<Vec<u8>, AllocErro
 /// Returns the names of the combined states.
 pub(crate) fn state_words(alloc: Global, merge: &Merge) -> Result<Vec<Vec<u8>>, AllocError>
     requires { IsMerge merge.now }
-    ensures words { IfOk result (λ words. map (λ word. word.items) words.items ≡ combined_state_names merge.now.targets.now) }
+    ensures words { IfOk result (λ words. map (λ word. word.items) words.items
+        ≡ combined_state_names merge.now.targets.now) }
     ensures bytes { IfOk result (λ words. All (λ word. IsTrue (is_word word.items)) words.items) }
 {
     let mut words = Vec::new(alloc);

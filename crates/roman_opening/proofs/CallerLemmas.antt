@@ -1,7 +1,7 @@
 -- The lemmas of this crate that proofs of other crates may cite. All else in proofs/ can be renamed freely.
 
 -- Properties of the texts of a shelf, if they are known.
-pub use Rattle.roman_opening.proofs.EndingLemmas.{told_all, told_both, told_known, told_more}
+pub use Rattle.roman_opening.proofs.EndingLemmas.{told_all, told_both, told_known}
 -- How a part of a run ends.
 pub use Rattle.roman_opening.proofs.EndingLemmas.{IsSaid, ends_weaker, opened_from, put_ends}
 -- What opening a document gives.

@@ -2,6 +2,7 @@
 pub use Rattle.std.proofs.Common.{Err, IfSome, IsFalse, IsTrue, List, None, Ok, Option, Result, Some, [], ap, append_assoc, arith, codes, refl, subst, sym, ℕ, ◌++◌, ◌<◌, ◌∙◌, ◌≡◌, ◌≢◌, ◌≤◌}
 pub use Rattle.std.proofs.lemmas.Bool.{cond-false, cond-true, le-ltb, lt-ltb}
 pub use Rattle.std.proofs.lemmas.List.{append-nil}
+pub use Rattle.std.proofs.lemmas.Option.{IfSome_then}
 pub use Rattle.std.proofs.lemmas.Result.{err_from_is_err_and}
 pub use Rattle.roman_io.proofs.CallerLemmas.{Wrote-nil}
 pub use Rattle.roman_io.specs.Faults.{HasCause, Rose}

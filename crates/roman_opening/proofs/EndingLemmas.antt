@@ -1,11 +1,6 @@
 -- How the parts of a run end.
-use Rattle.roman_opening.proofs.Common.{◌≡◌, ℕ, IsTrue, IsFalse, List, Option, None, Some, IfSome, Result, Ok, Err, sym, ap, ◌∙◌, subst, arith, refl, ◌≤◌, cond-true, cond-false, le-ltb, HasCause, Texts, Puts, Wrote-nil, cells, PlainLibrary, Refusal, WritesText, WritesPrefix, Writes, Ends, Opened, Finishes, Accepted, OnOpening, library_system, is_past_limit, Past, opening_of, Opening, Refused, Status, Outputs, outputs}
+use Rattle.roman_opening.proofs.Common.{◌≡◌, ℕ, IsTrue, IsFalse, List, Option, None, Some, IfSome, Result, Ok, Err, sym, ap, ◌∙◌, subst, arith, refl, ◌≤◌, cond-true, cond-false, le-ltb, HasCause, Texts, Puts, Wrote-nil, cells, PlainLibrary, Refusal, WritesText, WritesPrefix, Writes, Ends, Opened, Finishes, Accepted, OnOpening, library_system, is_past_limit, Past, opening_of, Opening, Refused, Status, Outputs, outputs, IfSome_then}
 use Rattle.roman_opening.specs.declared.status.Status.TheVariants as status
-
--- properties of the value that an option may hold
-pub told_more : {X : Type 0} (o : Option X) (P Q : X → Type 0) → IfSome o P → ((x : X) → P x → Q x) → IfSome o Q
-told_more None P Q p more = tt
-told_more (Some x) P Q p more = more x p
 
 pub told_both : {X : Type 0} (o : Option X) (P Q R : X → Type 0) → IfSome o P → IfSome o Q → ((x : X) → P x → Q x → R x) → IfSome o R
 told_both None P Q R p q more = tt
@@ -33,7 +28,7 @@ IsSaid _ = ⊥
 pub put_ends : {T E : Type 0} (IsRun : Texts → List ℕ → Status → Type 0) (told : Option Texts) (shelf : ℕ) (old new : Option (List ℕ)) (faults faults_now : ℕ) (text : List ℕ) (ends result : Status) (r : Result T E) → IsSaid ends →
     IfSome told (λ texts. IsRun texts text ends) → Puts old new text r → HasCause faults faults_now r → Finishes r ends result → Ends IsRun (outputs told shelf old faults) (outputs told shelf new faults_now) result
 put_ends IsRun told shelf old new faults faults_now text ends result (Ok x) said run puts cause finishes =
-    subst (Ends IsRun (outputs told shelf old faults) (outputs told shelf new faults_now)) (sym finishes) (whole ends said (told_more told _ _ run (λ texts is. record { text = text; run = is; wrote = puts })))
+    subst (Ends IsRun (outputs told shelf old faults) (outputs told shelf new faults_now)) (sym finishes) (whole ends said (IfSome_then told run (λ texts is. record { text = text; run = is; wrote = puts })))
   where
     whole : (ends : Status) → IsSaid ends → IfSome told (λ texts. WritesText (IsRun texts) old new ends) → Ends IsRun (outputs told shelf old faults) (outputs told shelf new faults_now) ends
     whole status.Done said writes = record { writes = writes; stops = tt; texts = refl; shelf = refl; out = cause.stays }
@@ -43,7 +38,7 @@ put_ends IsRun told shelf old new faults faults_now text ends result (Ok x) said
     whole _ said writes = absurd said
 put_ends IsRun told shelf old new faults faults_now text ends result (Err e) said run puts cause finishes =
     subst (Ends IsRun (outputs told shelf old faults) (outputs told shelf new faults_now)) (sym finishes) (record {
-      writes = told_more told _ (λ texts. WritesPrefix (IsRun texts) old new) run (λ texts is. record { text = text; ends = ends; run = is; wrote = puts });
+      writes = IfSome_then told {Q = (λ texts. WritesPrefix (IsRun texts) old new)} run (λ texts is. record { text = text; ends = ends; run = is; wrote = puts });
       stops = tt;
       texts = refl;
       shelf = refl;

@@ -1,7 +1,7 @@
 -- Opening documents, and how a run ends without one.
 use Rattle.roman_opening.specs.declared.status.Status.TheVariants as status
-use Rattle.roman_opening.proofs.Common.{◌≡◌, ◌≢◌, ℕ, ◌<◌, List, Option, IfSome, Result, Ok, Err, refl, sym, ap, ◌∙◌, subst, ◌≤◌, HasCause, Rose, Texts, Wrote-nil, Puts, sizes_of, pair_at, count, numbers_are_pairs, NamedSys, system_of, cells, PlainLibrary, IsSeated, Seated, start_pair_of, IsRelation, Ends, EndsEarly, OpensDocument, MeansLibrary, TurnsAway, Accepts, IsRelated, Finishes, library_of, limit_line, library_system, Opening, OnOpening, lt-ltb, Related, outputs, Outputs, Status}
-use Rattle.roman_opening.proofs.EndingLemmas.{told_all, told_more, opens_past, opens_within, IsSaid, put_ends, none_ends}
+use Rattle.roman_opening.proofs.Common.{◌≡◌, ◌≢◌, ℕ, ◌<◌, List, Option, IfSome, Result, Ok, Err, refl, sym, ap, ◌∙◌, subst, ◌≤◌, HasCause, Rose, Texts, Wrote-nil, Puts, sizes_of, pair_at, count, numbers_are_pairs, NamedSys, system_of, cells, PlainLibrary, IsSeated, Seated, start_pair_of, IsRelation, Ends, EndsEarly, OpensDocument, MeansLibrary, TurnsAway, Accepts, IsRelated, Finishes, library_of, limit_line, library_system, Opening, OnOpening, lt-ltb, Related, outputs, Outputs, Status, IfSome_then}
+use Rattle.roman_opening.proofs.EndingLemmas.{told_all, opens_past, opens_within, IsSaid, put_ends, none_ends}
 
 -- ---- nothing was opened
 
@@ -40,7 +40,7 @@ pub opens_past_limit : {T E : Type 0} (name : List ℕ) (library : PlainLibrary)
     EndsEarly (TurnsAway name) old (outputs mid.texts mid.shelf_faults new faults_now) result
 opens_past_limit name library old mid new faults_now result r means same past puts cause finishes =
     opens_line (TurnsAway name) old mid new faults_now (limit_line library.limit) status.Limit result r same tt (λ e. let h : ⊥ = cc in h)
-    (told_more old.texts _ (λ texts. TurnsAway name texts (limit_line library.limit) status.Limit) means (λ texts is.
+    (IfSome_then old.texts {Q = (λ texts. TurnsAway name texts (limit_line library.limit) status.Limit)} means (λ texts is.
     subst (λ (opening : Opening). OnOpening (λ other out result. ⊥) opening (limit_line library.limit) status.Limit) (sym (opens_past (library_of texts name) library is (lt-ltb library.limit (cells (library_system library)) past))) (refl, refl)))
     puts cause finishes
 
@@ -50,7 +50,7 @@ opens_past_limit name library old mid new faults_now result r means same past pu
 pub opens_ok : {X : Type 0} (Holds : PlainLibrary → X → Type 0) (x : X) (name : List ℕ) (library : PlainLibrary) (old mid : Outputs) → IfSome old.texts (λ texts. MeansLibrary name texts library) → mid ≡ old →
     cells (library_system library) ≤ library.limit → Holds library x → OpensDocument Holds name old mid (Ok x)
 opens_ok Holds x name library old mid means same fits holds = record {
-  holds = told_more old.texts _ (λ texts. Accepts name texts (λ library. Holds library x)) means (λ texts is. record { library = library; accepted = opens_within (library_of texts name) library is fits; holds = holds });
+  holds = IfSome_then old.texts {Q = (λ texts. Accepts name texts (λ library. Holds library x))} means (λ texts is. record { library = library; accepted = opens_within (library_of texts name) library is fits; holds = holds });
   same = same;
 }
 

@@ -6,9 +6,9 @@ pub use Rattle.roman_order.proofs.Lanes.{entries_in_rows-row, has_entry-lane, ha
 pub use Rattle.roman_order.proofs.Places.{is_some-place_in_list}
 -- Marks that were lent.
 pub use Rattle.roman_order.proofs.Words.{rewritten_whole}
--- Events and their entries.
+-- Batches and their entries.
 pub use Rattle.roman_order.proofs.Lanes.{no_lane, set_lanes-zero, some_lane}
-pub use Rattle.roman_order.proofs.Events.{length-entries_at}
+pub use Rattle.roman_order.proofs.Batches.{length-entries_at}
 pub use Rattle.roman_order.proofs.Reading.{all_in, drop_next, get_first}
 pub use Rattle.roman_order.proofs.Kept.{apart_words}
-pub use Rattle.roman_order.proofs.Stamps.{has_entry-event}
+pub use Rattle.roman_order.proofs.Stamps.{has_entry-batch}

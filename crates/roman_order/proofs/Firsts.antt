@@ -1,13 +1,13 @@
--- The places of the first entries of events, of which those that equal their numbers are left out.
-use Rattle.roman_order.proofs.Common.{nil_from_length, get_or_append_left, get_or-append_right, get_or_default, get_or_past, ◌≡◌, ℕ, ◌+◌, ◌-◌, ◌<◌, ◌≤◌, List, [], ◌∷◌, ◌++◌, length, get_or, ap, sym, ◌∙◌, arith, append-nil, length-append, append_assoc, get_or-below, length-below, below, Event, places_of, AreCounted}
-use Rattle.roman_order.proofs.Events.{length-firsts_of}
+-- The places of the first entries of batches, of which those that equal their numbers are left out.
+use Rattle.roman_order.proofs.Common.{nil_from_length, get_or_append_left, get_or-append_right, get_or_default, get_or_past, ◌≡◌, ℕ, ◌+◌, ◌-◌, ◌<◌, ◌≤◌, List, [], ◌∷◌, ◌++◌, length, get_or, ap, sym, ◌∙◌, arith, append-nil, length-append, append_assoc, get_or-below, length-below, below, Batch, places_of, AreCounted}
+use Rattle.roman_order.proofs.Batches.{length-firsts_of}
 
--- there is a place for each event
+-- there is a place for each batch
 pub length-places_of : (many : ℕ) (later : List ℕ) → length later ≤ many → length (places_of many later) ≡ many
 length-places_of many later few = grind (arith, length-append, length-below)
 
--- the table has at most as many places as there are events
-pub few_firsts : (lanes n : ℕ) (later : List ℕ) (es : List Event) → AreCounted lanes n (places_of (length es) later) es → length later ≤ length es
+-- the table has at most as many places as there are batches
+pub few_firsts : (lanes n : ℕ) (later : List ℕ) (es : List Batch) → AreCounted lanes n (places_of (length es) later) es → length later ≤ length es
 few_firsts lanes n later es are = omega (arith, ap length are.firsts, length-append (below (length es - length later)) later, length-firsts_of 0 es)
 
 -- a place that is left out
@@ -18,11 +18,11 @@ first_alone many j d later l = grind (arith, get_or_append_left, get_or-below, l
 pub first_later : (many j d : ℕ) (later : List ℕ) → many - length later ≤ j → get_or (places_of many later) j d ≡ get_or later (j - (many - length later)) d
 first_later many j d later l = get_or-append_right (below (many - length later)) later (many - length later) j d (length-below (many - length later)) l
 
--- the place after the last event
+-- the place after the last batch
 pub first_past : (many j count : ℕ) (later : List ℕ) → length later ≤ many → many ≤ j → count ≡ get_or (places_of many later) j count
 first_past many j count later few l = sym (get_or_past (places_of many later) j count (rw (length-places_of many later few) l))
 
--- a place of an event, whatever is said for others
+-- a place of a batch, whatever is said for others
 pub first_any : (many j d count : ℕ) (later : List ℕ) → length later ≤ many → j < many → get_or (places_of many later) j d ≡ get_or (places_of many later) j count
 first_any many j d count later few l = get_or_default (places_of many later) j d count (rw (length-places_of many later few) l)
 

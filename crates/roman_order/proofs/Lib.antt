@@ -3,7 +3,7 @@ pub mod Words
 pub mod Lanes
 pub mod Ones
 pub mod Places
-pub mod Events
+pub mod Batches
 pub mod Pushes
 pub mod Counts
 pub mod Firsts

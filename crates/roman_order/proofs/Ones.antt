@@ -1,17 +1,5 @@
 -- The number of lanes of a word.
-use Rattle.roman_order.proofs.Common.{◌≡◌, ℕ, zero, suc, ◌%◌, ◌^◌, ◌<◌, cond, filter, length, inl, inr, sym, ap, ◌∙◌, arith, count_ones, sum_by, ◌*◌, ◌-◌, bit_and, bit_at, cases_eq, eq-eqb, ne_eqb, cond-true, cond-false, sum_by_push, length-filter, below, sum_by_same, is_on, set_lanes, pow_pos, pow-lt, ones_cat, ones_le_self, zero_from_ones, and_mask, mod-pow-add, bit_at-lt}
-
-bit_ones : (b : ℕ) → b < 2 → count_ones b ≡ b
-bit_ones b l = elim (cases_eq (count_ones b) 0) [ inl e ↦ e ∙ sym (zero_from_ones b e) | inr some ↦ omega (arith, ones_le_self b) ]
-
--- the number of ones among the lowest digits is the sum of these bits
-pub low_ones : (n k : ℕ) → count_ones (n % 2 ^ k) ≡ sum_by (bit_at n) (below k)
-low_ones n zero = let none : n % 1 ≡ 0 = omega arith in ap count_ones none ∙ bit_ones 0 (omega arith)
-low_ones n (suc k) = grind (arith, (bit_at-lt n k), (bit_ones (bit_at n k) (bit_at-lt n k)), (mod-pow-add n 1 k), ones_cat, (pow_pos k), (sum_by_push (bit_at n) (below k) k), (low_ones n k))
-
-bit_is : (word lane : ℕ) → bit_at word lane ≡ cond (is_on word lane) 1 0
-unfolding is_on
-bit_is word lane = grind (arith, bit_at-lt, cases_eq, cond-false, cond-true, eq-eqb, ne_eqb)
+use Rattle.roman_order.proofs.Common.{◌≡◌, ℕ, ◌%◌, ◌^◌, ◌<◌, cond, filter, length, sym, ap, ◌∙◌, arith, count_ones, ◌*◌, ◌-◌, bit_and, bit_at, length-filter, below, sum_by_same, is_on, set_lanes, pow-lt, and_mask, low_ones, bit_is}
 
 -- the number of lanes below a lane
 ones_before : (word lane : ℕ) → count_ones (word % 2 ^ lane) ≡ length (filter (is_on word) (below lane))

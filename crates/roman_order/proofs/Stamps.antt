@@ -1,5 +1,5 @@
 -- Places and stamps.
-use Rattle.roman_order.proofs.Common.{filter_below_more, list_any-map, none_from, filter_in, from_below, ◌≡◌, ℕ, zero, suc, ◌+◌, ◌-◌, ◌*◌, ◌^◌, ◌<◌, ◌≤◌, Bool, true, false, cond, ◌&&◌, filter, List, [], ◌∷◌, ◌++◌, map, length, get_or, Some, None, refl, sym, ap, ◌∙◌, inl, inr, arith, eqb, append_assoc, list_any, position_from, IsDistinct, AllByRecursion, set, same_from_place, cases_eq, eq-eqb, ne_eqb, or_parts, length-map, length-set, get_or-set_same, get_or-set_other, map-append, IsDistinct-head, IsDistinct-tail, Entry, Reason, as_entry, set_lanes, nodes_of, has_entry, below, is_on, IsEvent, entries_at, AreStamps, with_stamps, Event, unwrap_or}
+use Rattle.roman_order.proofs.Common.{filter_below_more, list_any-map, none_from, filter_in, from_below, ◌≡◌, ℕ, zero, suc, ◌+◌, ◌-◌, ◌*◌, ◌^◌, ◌<◌, ◌≤◌, Bool, true, false, cond, ◌&&◌, filter, List, [], ◌∷◌, ◌++◌, map, length, get_or, Some, None, refl, sym, ap, ◌∙◌, inl, inr, arith, eqb, append_assoc, list_any, position_from, IsDistinct, AllByRecursion, set, same_from_place, cases_eq, eq-eqb, ne_eqb, or_parts, length-map, length-set, get_or-set_same, get_or-set_other, map-append, IsDistinct-head, IsDistinct-tail, Entry, Reason, as_entry, set_lanes, nodes_of, has_entry, below, is_on, IsBatch, entries_at, AreStamps, with_stamps, Batch, unwrap_or}
 use Rattle.roman_order.proofs.Lanes.{has_entry-lane, has_entry-elsewhere}
 
 -- ---- places
@@ -43,11 +43,11 @@ stamp_at i p (q ∷ ps) stamps apart low =
 pub stamps_of : (L : List (Entry ℕ)) (stamps : List ℕ) → IsDistinct eqb (nodes_of L) → ((p : ℕ) → p < length stamps → get_or stamps p 0 ≡ 2 ^ 32 - 1) → AreStamps L (with_stamps 0 (nodes_of L) stamps)
 stamps_of L stamps apart blank p low = grind (arith, stamp_at, position_from-nodes, length-with_stamps)
 
--- ---- the place of a pair in an event
+-- ---- the place of a pair in a batch
 
--- the pairs that an event lists
-pub has_entry-event : (lanes : ℕ) (e : Event) (x lane : ℕ) → lanes ≤ 64 → lane < lanes → IsEvent lanes e → has_entry (entries_at lanes e) (x * lanes + lane) ≡ (eqb e.row x && is_on e.lanes lane)
-has_entry-event lanes e x lane few low is = elim (cases_eq e.row x) [
+-- the pairs that a batch lists
+pub has_entry-batch : (lanes : ℕ) (e : Batch) (x lane : ℕ) → lanes ≤ 64 → lane < lanes → IsBatch lanes e → has_entry (entries_at lanes e) (x * lanes + lane) ≡ (eqb e.row x && is_on e.lanes lane)
+has_entry-batch lanes e x lane few low is = elim (cases_eq e.row x) [
   | inl s ↦
       ap (λ r. has_entry (entries_at lanes e) (r * lanes + lane)) (sym s)
       ∙ (has_entry-lane [] (e.row * lanes) e.lanes lane e.reason (omega arith) ∙ ap (λ b. b && is_on e.lanes lane) (sym (eq-eqb e.row x s)))
@@ -57,7 +57,7 @@ has_entry-event lanes e x lane few low is = elim (cases_eq e.row x) [
 ]
 
 -- none of the entries for the lanes up to a lane is that of its pair
-none_at : (lanes : ℕ) (e : Event) (lane : ℕ) → list_any (λ (y : Entry ℕ). eqb (e.row * lanes + lane) y.node) (map (λ l. as_entry (e.row * lanes + l, e.reason)) (filter (is_on e.lanes) (below lane))) ≡ false
+none_at : (lanes : ℕ) (e : Batch) (lane : ℕ) → list_any (λ (y : Entry ℕ). eqb (e.row * lanes + lane) y.node) (map (λ l. as_entry (e.row * lanes + l, e.reason)) (filter (is_on e.lanes) (below lane))) ≡ false
 none_at lanes e lane =
     let test = λ (l : ℕ). eqb (e.row * lanes + lane) (e.row * lanes + l) in
     let before = filter (is_on e.lanes) (below lane) in
@@ -65,15 +65,15 @@ none_at lanes e lane =
     ∙ none_from test before (λ l j. ne_eqb _ _ (λ s. omega (arith, s, from_below lane l (filter_in (is_on e.lanes) l (below lane) j).0)))
 
 -- among the entries for the lanes below m, the search for the pair of a lane passes over those for the lanes below it
-place_below : (lanes : ℕ) (e : Event) (lane i m : ℕ) (L : List (Entry ℕ)) → lane < m → is_on e.lanes lane ≡ true →
+place_below : (lanes : ℕ) (e : Batch) (lane i m : ℕ) (L : List (Entry ℕ)) → lane < m → is_on e.lanes lane ≡ true →
     position_from (λ (y : Entry ℕ). eqb (e.row * lanes + lane) y.node) i (map (λ l. as_entry (e.row * lanes + l, e.reason)) (filter (is_on e.lanes) (below m)) ++ L) ≡ Some (i + length (filter (is_on e.lanes) (below lane)))
 place_below lanes e lane i zero L low on = absurd (omega arith)
 place_below lanes e lane i (suc m) L low on =
     let last : List (Entry ℕ) = map (λ l. as_entry (e.row * lanes + l, e.reason)) (cond (is_on e.lanes m) (m ∷ []) []) in
     grind (arith, cases_eq, append_assoc, eq-eqb, filter_below_more, length-map, map-append, position_from-past, none_at, (place_below lanes e lane i m (last ++ L)))
 
--- the search for the pair of a lane of an event gives the number of lanes before it
-pub place_in_event : (lanes : ℕ) (e : Event) (lane i : ℕ) (L : List (Entry ℕ)) → lane < 64 → is_on e.lanes lane ≡ true →
+-- the search for the pair of a lane of a batch gives the number of lanes before it
+pub place_in_batch : (lanes : ℕ) (e : Batch) (lane i : ℕ) (L : List (Entry ℕ)) → lane < 64 → is_on e.lanes lane ≡ true →
     position_from (λ (y : Entry ℕ). eqb (e.row * lanes + lane) y.node) i (entries_at lanes e ++ L) ≡ Some (i + length (filter (is_on e.lanes) (below lane)))
 unfolding set_lanes
-place_in_event lanes e lane i L low on = place_below lanes e lane i 64 L low on
+place_in_batch lanes e lane i L low on = place_below lanes e lane i 64 L low on

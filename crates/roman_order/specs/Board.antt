@@ -1,5 +1,5 @@
 -- What callers see of an order: the removal list, the waiting entries, and the tables beside them.
-use Rattle.std.specs.Prelude.{ℕ, ◌+◌, ◌*◌, ◌/◌, ◌%◌, ◌==◌, Bool, List, Option, map, flat_map, slice_index}
+use Rattle.std.specs.Prelude.{◌≡◌, true, false, ℕ, ◌+◌, ◌*◌, ◌/◌, ◌%◌, ◌==◌, Bool, List, Option, map, flat_map, slice_index}
 use Rattle.std.specs.List.{list_any, position_from, filter}
 use Rattle.roman_model.specs.Lists.{below}
 use Rattle.roman_model.specs.Arena.{Entry}
@@ -49,6 +49,10 @@ nodes_of L = map (λ x. x.node) L
 -- some entry is that of the pair p
 abbrev pub has_entry : List (Entry ℕ) → ℕ → Bool
 has_entry L p = list_any (λ x. p == x.node) L
+
+-- no pair of row x at a lane of the word is listed
+abbrev pub AreAliveAt : List (Entry ℕ) → ℕ → ℕ → ℕ → Type 0
+AreAliveAt L lanes x word = (lane : ℕ) → is_on word lane ≡ true → has_entry L (x * lanes + lane) ≡ false
 
 -- the place of the first entry of the pair p
 abbrev pub place_in_list : List (Entry ℕ) → ℕ → Option ℕ

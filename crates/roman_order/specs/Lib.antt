@@ -1,5 +1,5 @@
 pub mod Board
-pub mod Events
-pub mod Walks
+pub mod Batches
+pub mod ReadAhead
 pub mod Sound
 pub mod Lending

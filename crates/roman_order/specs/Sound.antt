@@ -5,13 +5,13 @@ use Rattle.roman_model.specs.Arena.{Entry}
 use Rattle.roman_model.specs.Lists.{below}
 use Rattle.roman_lanes.specs.Rows.{AreRows}
 use Rattle.roman_order.specs.Board.{Board, set_lanes, nodes_of, has_entry, place_in_list}
-use Rattle.roman_order.specs.Events.{IsEvent, entries_of}
-use Rattle.roman_order.specs.declared.event.Event.{Event}
+use Rattle.roman_order.specs.Batches.{IsBatch, entries_of}
+use Rattle.roman_order.specs.declared.batch.Batch.{Batch}
 use Rattle.roman_order.specs.declared.order.Order.TheInside.{Inside}
 
 -- the removal list
 abbrev pub removal_list : Inside → List (Entry ℕ)
-removal_list a = entries_of a.lanes a.events.items
+removal_list a = entries_of a.lanes a.batches.items
 
 -- the waiting entries
 abbrev pub waiting_list : Inside → List (Entry ℕ)
@@ -49,24 +49,24 @@ abbrev pub with_stamps : ℕ → List ℕ → List ℕ → List ℕ
 with_stamps i [] stamps = stamps
 with_stamps i (p ∷ ps) stamps = with_stamps (i + 1) ps (slice_set stamps p i)
 
--- the place of each event's first entry, where n entries stand before the first
-abbrev pub firsts_of : ℕ → List Event → List ℕ
+-- the place of each batch's first entry, where n entries stand before the first
+abbrev pub firsts_of : ℕ → List Batch → List ℕ
 firsts_of n [] = []
 firsts_of n (e ∷ es) = n ∷ firsts_of (n + length (set_lanes e.lanes)) es
 
--- the places of the first entries of so many events: first those that equal their numbers, which the table leaves out, then the table's
+-- the places of the first entries of so many batches: first those that equal their numbers, which the table leaves out, then the table's
 abbrev pub places_of : ℕ → List ℕ → List ℕ
 places_of many later = below (many - length later) ++ later
 
--- each event has entries, and the count and the places are right
-pub record AreCounted (lanes n : ℕ) (places : List ℕ) (es : List Event) : Type 0 where
-  pub each : AllByRecursion (IsEvent lanes) es
+-- each batch has entries, and the count and the places are right
+pub record AreCounted (lanes n : ℕ) (places : List ℕ) (es : List Batch) : Type 0 where
+  pub each : AllByRecursion (IsBatch lanes) es
   pub count : n ≡ length (entries_of lanes es)
   pub firsts : places ≡ firsts_of 0 es
 
--- each waiting event has entries, and their pairs are numbers of 32 bits
-pub record CanWait (lanes : ℕ) (es : List Event) : Type 0 where
-  pub each : AllByRecursion (IsEvent lanes) es
+-- each waiting batch has entries, and their pairs are numbers of 32 bits
+pub record CanWait (lanes : ℕ) (es : List Batch) : Type 0 where
+  pub each : AllByRecursion (IsBatch lanes) es
   pub in_range : (p : ℕ) → has_entry (entries_of lanes es) p ≡ true → p < 2 ^ 32
 
 -- the tables are as long as the shape needs, and have room for the greatest number of pairs
@@ -78,7 +78,7 @@ pub record IsSized (a : Inside) : Type 0 where
   pub before_long : length a.before.items ≡ a.rows
   pub marks_long : length a.marks.items ≡ (a.rows * a.lanes + 63) / 64
   pub next_in : a.next ≤ length a.waiting.items
-  pub events_room : a.room ≤ vec_capacity a.events
+  pub batches_room : a.room ≤ vec_capacity a.batches
   pub firsts_room : a.room ≤ vec_capacity a.firsts
   pub waiting_room : a.room ≤ vec_capacity a.waiting
   pub stamps_room : a.room ≤ vec_capacity a.stamps
@@ -91,7 +91,7 @@ pub record IsSized (a : Inside) : Type 0 where
 -- the tables agree with the list, and have the right sizes
 pub record IsSound (a : Inside) : Type 0 where
   pub placed : IsPlaced (a.rows * a.lanes) (removal_list a)
-  pub counted : AreCounted a.lanes a.count (places_of (length a.events.items) a.firsts.items) a.events.items
+  pub counted : AreCounted a.lanes a.count (places_of (length a.batches.items) a.firsts.items) a.batches.items
   pub waits : CanWait a.waiting_lanes (drop a.next a.waiting.items)
   pub stamped : AreStamps (removal_list a) a.stamps.items
   pub alive : AreRows a.lanes (λ p. not (has_entry (removal_list a) p)) a.words.items

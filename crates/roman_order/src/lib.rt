@@ -10,11 +10,11 @@
 #![tactic(auto)]
 
 mod ahead;
-mod event;
+mod batch;
 mod flags;
 mod order;
 
 pub use ahead::Ahead;
-pub use event::Event;
+pub use batch::Batch;
 pub use order::Order;
 pub use roman_model::Reason;

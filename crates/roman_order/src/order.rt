@@ -4,18 +4,18 @@ ghost use Rattle.std.specs.Prelude.{IfOk, IfSome, IfNone};
 ghost use Rattle.std.specs.List.{IsDistinct};
 ghost use Rattle.roman_model.specs.Lists.{below};
 ghost use Rattle.roman_order.specs.Board.{pairs_of, as_entry, nodes_of, has_entry, is_marked};
-ghost use Rattle.roman_order.specs.Events.{IsEvent, entries_at};
+ghost use Rattle.roman_order.specs.Batches.{IsBatch, entries_at};
 
 mod levels;
 mod marks;
 mod places;
 mod pushes;
 mod reading;
-mod walking;
+mod reading_on;
 mod words;
 
-use self::reading::event_in;
-use crate::event::Event;
+use self::reading::batch_in;
+use crate::batch::Batch;
 use crate::flags::{self, first_lane};
 use roman_model::Reason;
 use std::alloc::{AllocError, Global};
@@ -38,17 +38,17 @@ pub struct Order {
     lanes: u32,
     // the number of entries of the list
     count: u32,
-    // the first event of `waiting` that still waits, and the number of lanes in the rows of these
-    // events
+    // the first batch of `waiting` that still waits, and the number of lanes in the rows of these
+    // batches
     next: usize,
     waiting_lanes: u32,
     // where the search for marks continues
     cursor: usize,
-    // the list; each event has lanes
-    events: Vec<Event>,
-    // the place of each event's first entry
+    // the list; each batch has lanes
+    batches: Vec<Batch>,
+    // the place of each batch's first entry
     firsts: Vec<u32>,
-    waiting: Vec<Event>,
+    waiting: Vec<Batch>,
     // each pair's place in the list, or `u32::MAX`; empty unless `place_all` has filled it
     stamps: Vec<u32>,
     // a word for each row, with the bits of its pairs that aren't listed
@@ -70,7 +70,7 @@ impl Drop for Order {
             next: _,
             waiting_lanes: _,
             cursor: _,
-            events: _,
+            batches: _,
             firsts: _,
             waiting: _,
             stamps: _,
@@ -123,7 +123,7 @@ impl Order {
             next: 0,
             waiting_lanes: 1,
             cursor: 0,
-            events: Vec::with_capacity(alloc, places)?,
+            batches: Vec::with_capacity(alloc, places)?,
             firsts: Vec::with_capacity(alloc, places)?,
             waiting: Vec::with_capacity(alloc, places)?,
             stamps: Vec::with_capacity(alloc, places)?,
@@ -150,7 +150,7 @@ impl Order {
             next: self.next,
             waiting_lanes: self.waiting_lanes,
             cursor: self.cursor,
-            events: copied(alloc, &self.events, places)?,
+            batches: copied(alloc, &self.batches, places)?,
             firsts: copied(alloc, &self.firsts, places)?,
             waiting: copied(alloc, &self.waiting, places)?,
             stamps: Vec::with_capacity(alloc, places)?,
@@ -170,7 +170,7 @@ impl Order {
         requires idle { from.now.waiting ≡ [] }
         ensures { self.new ≡ from.now }
     {
-        rewrite(&mut self.events, &from.events);
+        rewrite(&mut self.batches, &from.batches);
         rewrite(&mut self.firsts, &from.firsts);
         rewrite(&mut self.words, &from.words);
         rewrite(&mut self.before, &from.before);
@@ -204,7 +204,7 @@ impl Order {
         } }
         ensures unmarked { (p : ℕ) → is_marked self.new p ≡ false }
     {
-        self.events.clear();
+        self.batches.clear();
         self.firsts.clear();
         self.count = 0;
         self.stamps.clear();
@@ -239,7 +239,7 @@ impl Order {
         ensures unmarked { (p : ℕ) → is_marked self.new p ≡ false }
     {
         self.waiting.clear();
-        mem::swap(&mut self.events, &mut self.waiting);
+        mem::swap(&mut self.batches, &mut self.waiting);
         self.waiting_lanes = self.lanes;
         self.firsts.clear();
         self.count = 0;
@@ -265,13 +265,13 @@ impl Order {
         if self.next == self.waiting.len() {
             return None;
         }
-        let first = event_in(&self.waiting, self.next);
+        let first = batch_in(&self.waiting, self.next);
         let (lane, left) = first_lane(first.lanes);
         let pair = first.row * self.waiting_lanes + lane;
         if left == 0 {
             self.next += 1;
         } else {
-            self.waiting[self.next] = Event {
+            self.waiting[self.next] = Batch {
                 lanes: left,
                 ..first
             };
@@ -279,21 +279,22 @@ impl Order {
         Some((pair, first.reason))
     }
 
-    /// Takes the waiting entries of the first event together, as an event of the shape before the
+    /// Takes the waiting entries of the first batch together, as a batch of the shape before the
     /// order was reopened. Returns `None` exactly where no entry waits.
-    #[tactic(auto, using(crate::proofs::Events::rest_waits))]
-    pub fn next_waiting_event(&mut self) -> Option<Event>
+    #[tactic(auto, using(crate::proofs::Batches::rest_waits))]
+    pub fn next_waiting_batch(&mut self) -> Option<Batch>
         ensures none { IfNone result ((self.old.waiting ≡ []) × (self.new ≡ self.old)) }
-        ensures first { IfSome result (λ e. self.old.waiting ≡ entries_at self.old.waiting_lanes e ++ self.new.waiting) }
-        ensures event { IfSome result (λ e. IsEvent self.old.waiting_lanes e) }
+        ensures first { IfSome result (λ e. self.old.waiting
+            ≡ entries_at self.old.waiting_lanes e ++ self.new.waiting) }
+        ensures batch { IfSome result (λ e. IsBatch self.old.waiting_lanes e) }
         ensures rest { self.new ≡ record self.old { waiting = self.new.waiting } }
     {
         if self.next == self.waiting.len() {
             return None;
         }
-        let event = event_in(&self.waiting, self.next);
+        let batch = batch_in(&self.waiting, self.next);
         self.next += 1;
-        Some(event)
+        Some(batch)
     }
 
     /// Does nothing. Its contract states what holds of every order: the pairs of the list are distinct
@@ -309,7 +310,7 @@ impl Order {
         ensures marks { length self.now.marks ≡ (pairs_of self.now + 63) / 64 }
         ensures before { length self.now.before ≡ self.now.rows }
     {
-        let _events = &self.events;
+        let _batches = &self.batches;
     }
 
     /// Returns the length of the list, at most the number of pairs, without counting the entries.

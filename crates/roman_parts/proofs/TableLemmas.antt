@@ -1,28 +1,19 @@
 -- Rows made from the masks of a list of steps hold the steps of the record in normal form.
-use Rattle.roman_parts.proofs.Common.{All, Bool, IsTrue, List, Some, [], ap, arith, false, filter, length, map, refl, slice_get, subst, suc, sym, true, zero, ℕ, ◌*◌, ◌++◌, ◌+◌, ◌-◌, ◌<◌, ◌==◌, ◌∙◌, ◌∷◌, ◌≡◌, ◌≤◌, get_or, and_parts, eq-eqb, eqb-true, false_from_ne_true, get_or-map, length-map, All-contains, All-filter, filter-append, mul-add-lt, get_or_from_slice_get, slice_get-get_or, list_any, if◌then◌else◌, slice_index_or, states_below-past, states_below-same, states_below-suc, states_below-zero, has_state, states_of, states_below, any_from, any_same, any_true, filter_in, env_from_same, beh_from_same, get_or-below, in_below, in_contains, in_filter, length-below, list_any-map, same_test, below, env_from, normal_beh, normal_env, Env, has, has_move, has_triple, beh_next, beh_prev, env_next, env_prev, MAX_ACTIONS, MAX_STATES, HasMoves, HasTriples, goes, leads, cell_has, automaton_of, row_has, HasGuardedRows, HasRows, move_of, triple_of, AreMoves, AreTriples, listed_beh, listed_env}
+use Rattle.roman_parts.proofs.Common.{Bool, IsTrue, List, Some, [], ap, arith, false, filter, length, map, refl, slice_get, subst, suc, sym, true, zero, ℕ, ◌*◌, ◌++◌, ◌+◌, ◌-◌, ◌<◌, ◌==◌, ◌∙◌, ◌∷◌, ◌≡◌, ◌≤◌, get_or, and_parts, eq-eqb, eqb-true, false_from_ne_true, get_or-map, length-map, All-contains, All-filter, filter-append, mul-add-lt, get_or_from_slice_get, slice_get-get_or, list_any, if◌then◌else◌, slice_index_or, states_below-past, states_below-same, states_below-suc, states_below-zero, has_state, states_of, states_below, any_from, any_same, any_true, filter_in, env_from_same, beh_from_same, get_or-below, in_below, in_contains, in_filter, length-below, list_any-map, same_test, below, env_from, normal_beh, normal_env, Env, has, has_move, has_triple, beh_next, beh_prev, env_next, env_prev, MAX_ACTIONS, MAX_STATES, HasMoves, HasTriples, goes, leads, cell_has, automaton_of, row_has, HasGuardedRows, HasRows, move_of, triple_of, AreMoves, AreTriples, listed_beh, listed_env}
 use Rattle.roman_parts.proofs.CellLemmas.{and_turned, four_turned}
 use Rattle.roman_parts.proofs.NormalLemmas.{env_next-normal, env_prev-normal, IsEnv-normal, beh_next-normal, beh_prev-normal, IsOver-normal, is_final-normal}
 
 -- the numbers below a bound that pass
-states_below-filter : (p : ℕ → Bool) (n : ℕ) → states_below p n ≡ filter p (below n)
+pub states_below-filter : (p : ℕ → Bool) (n : ℕ) → states_below p n ≡ filter p (below n)
 states_below-filter p zero = states_below-zero p
 states_below-filter p (suc n) = states_below-suc p n ∙ ap (λ xs. xs ++ filter p (n ∷ [])) (states_below-filter p n) ∙ sym (filter-append p (below n) (n ∷ []))
-
--- the states of a mask are the numbers below the bound that pass, where no number from there on passes
-mask_filter : (mask n : ℕ) (p : ℕ → Bool) → n ≤ 64 → ((i : ℕ) → has_state mask i ≡ p i) → ((i : ℕ) → n ≤ i → p i ≡ false) → states_of mask ≡ filter p (below n)
-mask_filter mask n p small same past = grind (arith, (states_below-filter p n), (states_below-past p n (64 - n) past), states_below-same)
 
 -- the row of a cell
 row_of_cell : (masks : List ℕ) (k n : ℕ) (p : ℕ → Bool) → k < length masks → n ≤ 64 → ((i : ℕ) → cell_has masks k i ≡ p i) → ((i : ℕ) → n ≤ i → p i ≡ false) →
     slice_get (map states_of masks) k ≡ Some (filter p (below n))
 unfolding cell_has
 row_of_cell masks k n p within small same past =
-    slice_get-get_or _ k [] (omega (arith, length-map masks states_of)) ∙ ap Some (get_or-map states_of masks k 0 [] within ∙ mask_filter _ n p small same past)
-
--- a triple of the record is in range
-listed_triple_in_range : (states actions start : ℕ) (steps : List (ℕ × ℕ × ℕ)) (e a e' : ℕ) → AreTriples states actions steps → IsTrue (has_triple (listed_env states actions start steps) e a e') →
-    (e < states) × (a < actions) × (e' < states)
-listed_triple_in_range states actions start steps e a e' range t = grind (arith, All-contains, and_parts, any_true, eqb-true, in_contains, list_any-map)
+    slice_get-get_or _ k [] (omega (arith, length-map masks states_of)) ∙ ap Some (get_or-map states_of masks k 0 [] within ∙ (grind (arith, (states_below-filter p n), (states_below-past p n (64 - n) past), states_below-same)))
 
 -- the steps that lead from a state to another are the steps of the record
 triples_added : (back : Bool) (states actions start : ℕ) (steps : List (ℕ × ℕ × ℕ)) (e a n : ℕ) →
@@ -30,18 +21,12 @@ triples_added : (back : Bool) (states actions start : ℕ) (steps : List (ℕ ×
 triples_added false states actions start steps e a n = sym (list_any-map triple_of _ steps)
 triples_added true states actions start steps e a n = any_same _ _ steps (λ t i. and_turned (t.2 == e) (t.1 == a) (t.0 == n)) ∙ sym (list_any-map triple_of _ steps)
 
-all_below_bound : (n : ℕ) → All (λ x. x < n) (below n)
-all_below_bound n = λ k d less. subst (λ x. x < n) (sym (get_or-below n k d (omega (arith, length-below n)))) (omega (arith, length-below n))
-
 -- a number below the bound is in the filtered list exactly where it passes
 pub has_filter : (p : ℕ → Bool) (n i : ℕ) → i < n → has (filter p (below n)) i ≡ p i
 has_filter p n i less = grind (arith, any_from, any_true, (eq-eqb i i refl), eqb-true, filter_in, (in_below n i less), in_filter, (same_test (has (filter p (below n)) i) (p i)))
 
-has_states_below : (p : ℕ → Bool) (n i : ℕ) → i < n → has (states_below p n) i ≡ p i
-has_states_below p n i less = ap (λ xs. has xs i) (states_below-filter p n) ∙ has_filter p n i less
-
 pub has_states_of : (mask i : ℕ) → i < 64 → has (states_of mask) i ≡ has_state mask i
-has_states_of mask i less = has_states_below (has_state mask) 64 i less
+has_states_of mask i less = ap (λ xs. has xs i) (states_below-filter (has_state mask) 64) ∙ has_filter (has_state mask) 64 i less
 
 -- a row has the numbers below the bound that pass
 row_keeps : (p : ℕ → Bool) (rows : List (List ℕ)) (k n i : ℕ) → slice_get rows k ≡ Some (filter p (below n)) → i < n → has (slice_index_or rows k []) i ≡ p i
@@ -59,7 +44,7 @@ module _ (states actions start : ℕ) (steps : List (ℕ × ℕ × ℕ)) (to fro
     (to_len : length to ≡ states * actions) (from_len : length from ≡ states * actions)
     (to_has : HasTriples false actions steps to) (from_has : HasTriples true actions steps from) where
   steps_in_range : (e a e' : ℕ) → IsTrue (has_triple (listed_env states actions start steps) e a e') → (e < states) × (a < actions) × (e' < states)
-  steps_in_range e a e' t = listed_triple_in_range states actions start steps e a e' range t
+  steps_in_range e a e' t = grind (arith, All-contains, and_parts, any_true, eqb-true, in_contains, list_any-map)
 
   next_row : (e a : ℕ) → e < states → a < actions → slice_get (map states_of to) (e * actions + a) ≡ Some (env_next (listed_env states actions start steps) e a)
   next_row e a he ha =
@@ -85,14 +70,9 @@ module _ (states actions start : ℕ) (steps : List (ℕ × ℕ × ℕ)) (to fro
 
 -- the numbers that are kept are below the bound
 pub kept_below : (p : ℕ → Bool) (n k d : ℕ) → k < length (filter p (below n)) → get_or (filter p (below n)) k d < n
-kept_below p n k d less = All-filter p (λ x. x < n) (below n) (all_below_bound n) k d less
+kept_below p n k d less = All-filter p (λ x. x < n) (below n) (λ k d less. subst (λ x. x < n) (sym (get_or-below n k d (omega (arith, length-below n)))) (omega (arith, length-below n))) k d less
 
 -- The table of a behaviour.
-
--- a step of the record is in range
-listed_move_in_range : (states actions start : ℕ) (finals : List ℕ) (steps : List (ℕ × ℕ × ℕ × ℕ)) (b e a b' : ℕ) → AreMoves states actions steps → IsTrue (has_move (listed_beh states start finals steps) b e a b') →
-    (b < states) × (a < actions) × (b' < states)
-listed_move_in_range states actions start finals steps b e a b' range t = grind (arith, All-contains, and_parts, any_true, eqb-true, in_contains, list_any-map)
 
 -- the steps that go from a state to another are the steps of the record
 moves_added : (back : Bool) (states start : ℕ) (finals : List ℕ) (steps : List (ℕ × ℕ × ℕ × ℕ)) (b e a n : ℕ) → e < 64 →
@@ -116,7 +96,7 @@ module _ (states env_states actions start : ℕ) (finals : List ℕ) (steps : Li
     (to_len : length to ≡ states * env_states * actions) (from_len : length from ≡ states * env_states * actions)
     (to_has : HasMoves false env_states actions steps to) (from_has : HasMoves true env_states actions steps from) where
   moves_in_range : (b e a b' : ℕ) → IsTrue (has_move (listed_beh states start finals steps) b e a b') → (b < states) × (a < actions) × (b' < states)
-  moves_in_range b e a b' t = listed_move_in_range states actions start finals steps b e a b' range t
+  moves_in_range b e a b' t = grind (arith, All-contains, and_parts, any_true, eqb-true, in_contains, list_any-map)
 
   place : (b e a : ℕ) → b < states → e < env_states → a < actions → (b * env_states + e) * actions + a < states * env_states * actions
   place b e a hb he ha =

@@ -36,7 +36,8 @@ impl Model for Automaton {
     ghost view = { λ s. automaton_of s.cells.states s.cells.env_states s.cells.actions s.start s.finals s.next };
 
     ghost invariant = { λ s. HasGuardedRows
-        (automaton_of s.cells.states s.cells.env_states s.cells.actions s.start s.finals s.next) s.finals s.next s.prev };
+        (automaton_of s.cells.states s.cells.env_states s.cells.actions s.start s.finals s.next)
+        s.finals s.next s.prev };
 }
 
 impl Automaton {

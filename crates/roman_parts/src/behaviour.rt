@@ -67,7 +67,8 @@ impl Behaviour {
         ensures over { IfOk result
             (λ made. (made.env_states ≡ env.now.env.states) × (made.actions ≡ env.now.env.actions)) }
         ensures normal { IfOk result (λ made. made.beh
-            ≡ normal_beh env.now.env.states env.now.env.actions (listed_beh (length states) start finals.now steps.now)) }
+            ≡ normal_beh env.now.env.states env.now.env.actions
+            (listed_beh (length states) start finals.now steps.now)) }
     {
         env.known(); // the environment is well formed
         let cells = Cells::over(&states, env);

@@ -64,7 +64,8 @@ fn read_operator(
 ) -> Result<Guard, PartError>
     requires { length states.now ≤ 64 }
     ensures { Gives holds result
-        (operator_of index name.now (guard_of states.now index (view v.now)) (guards_of states.now index (view v.now))) }
+        (operator_of index name.now (guard_of states.now index (view v.now))
+        (guards_of states.now index (view v.now))) }
 {
     if name == "not" {
         let inner = read_guard(alloc, states, v, index)?;

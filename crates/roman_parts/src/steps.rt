@@ -49,7 +49,8 @@ fn read_triple(
     requires states { length states.now ≤ 64 }
     requires actions { length actions.now ≤ 64 }
     ensures step { Gives triple_of result (triple_item states.now actions.now index (view v.now)) }
-    ensures within { IfOk result (λ t. (t.0 < length states.now) × (t.1 < length actions.now) × (t.2 < length states.now)) }
+    ensures within { IfOk result (λ t. (t.0 < length states.now) × (t.1 < length actions.now)
+        × (t.2 < length states.now)) }
 {
     let items = list_at(v, List::Steps, index)?;
     let [from, action, to] = items else {
@@ -103,7 +104,8 @@ fn read_move(
     requires actions { length actions.now ≤ 64 }
     requires states { length states.now ≤ 64 }
     ensures step { Gives move_of result (move_item env_states.now actions.now states.now index (view v.now)) }
-    ensures within { IfOk result (λ m. (m.0 < length states.now) × (m.2 < length actions.now) × (m.3 < length states.now)) }
+    ensures within { IfOk result (λ m. (m.0 < length states.now) × (m.2 < length actions.now)
+        × (m.3 < length states.now)) }
     ensures guard { IfOk result (λ m. m.1 < 2 ^ length env_states.now) }
 {
     let items = list_at(v, List::Steps, index)?;

@@ -71,12 +71,14 @@ impl Target {
         requires finals { All (λ t. t < length states) finals.now }
         requires steps { AreMoves (length states) env.now.env.actions steps.now }
         requires single { IsDeterministic
-            (normal_beh env.now.env.states env.now.env.actions (listed_beh (length states) start finals.now steps.now)) }
+            (normal_beh env.now.env.states env.now.env.actions
+            (listed_beh (length states) start finals.now steps.now)) }
         ensures names { IfOk result (λ made. made.states ≡ states) }
         ensures over { IfOk result
             (λ made. (made.env_states ≡ env.now.env.states) × (made.actions ≡ env.now.env.actions)) }
         ensures normal { IfOk result (λ made. made.beh
-            ≡ normal_beh env.now.env.states env.now.env.actions (listed_beh (length states) start finals.now steps.now)) }
+            ≡ normal_beh env.now.env.states env.now.env.actions
+            (listed_beh (length states) start finals.now steps.now)) }
     {
         env.known(); // the environment is well formed
         let cells = Cells::over(&states, env);

@@ -8,7 +8,7 @@ pub use Rattle.std.proofs.lemmas.List.Edits.{get_or-remove_above, get_or-remove_
 pub use Rattle.std.proofs.lemmas.List.Elements.{All-drop, recursion_from_All}
 pub use Rattle.std.proofs.lemmas.Nat.{div-add-mod', div-mul-add, mul-le}
 pub use Rattle.std.specs.List.{All, AllByRecursion, remove}
-pub use Rattle.roman_model.proofs.CallerLemmas.{AreBelow-length, IsPairOf-at, IsPairOf-grown, IsPairOf-moved, IsPairOf-without, count-grown, count-without, number-grown, number-pair_at, number-set, number_below, number_without-is, part_at, parts_of_number}
+pub use Rattle.roman_model.proofs.CallerLemmas.{AreBelow-length, IsPairOf-at, IsPairOf-grown, IsPairOf-moved, IsPairOf-without, count-grown, count-without, number-grown, number-pair_at, number-set, number_below, number_without-is, parts_of_number}
 pub use Rattle.roman_model.specs.Change.{grown, without}
 pub use Rattle.roman_model.specs.Lists.{product_of}
 pub use Rattle.roman_model.specs.Numbers.{IsPairOf, Sizes, count, grown_sizes, number, pair_at, sizes_without, states_number}

@@ -1,5 +1,5 @@
 -- How a pair's number changes with its states.
-use Rattle.roman_radix.proofs.Common.{◌^◌, ◌≡◌, ℕ, ◌+◌, ◌-◌, ◌*◌, ◌/◌, ◌%◌, ◌<◌, ◌≤◌, List, length, take, drop, slice_index, get_or, sym, ap, ◌∙◌, arith, div-div-eq-div-mul, drop_more, drop_all, get_or-take, length-take-le, get_or-set_same, get_or-set_other, ext_get_or, length-set, product_of, Sizes, grown_sizes, sizes_without, count, states_number, number, pair_at, IsPairOf, IsSizes, stride_of, moved, with_part, MAX_SERVICES, Pair, grown, without, parts_of_number, number-pair_at, IsPairOf-at, number-set, IsPairOf-moved, IsPairOf-grown, number-grown, IsPairOf-without, number_without-is, AreBelow-length, number_below, part_at}
+use Rattle.roman_radix.proofs.Common.{◌^◌, ◌≡◌, ℕ, ◌+◌, ◌-◌, ◌*◌, ◌/◌, ◌%◌, ◌<◌, ◌≤◌, List, length, drop, slice_index, sym, ap, ◌∙◌, arith, drop_more, drop_all, product_of, Sizes, grown_sizes, sizes_without, count, states_number, number, pair_at, IsPairOf, IsSizes, stride_of, moved, with_part, MAX_SERVICES, Pair, grown, without, parts_of_number, number-pair_at, IsPairOf-at, number-set, IsPairOf-moved, IsPairOf-grown, number-grown, IsPairOf-without, number_without-is, AreBelow-length, number_below}
 
 -- component k gets another state; the numbers in the code are equal to those of the sizes
 pub record Replaced (n : Sizes) (p k b part state stride : ℕ) : Type 0 where
@@ -58,18 +58,3 @@ states_more sizes bs k size state = grind (arith, (drop_more sizes k 0 size), (d
 -- where no state is left, the number is 0
 pub states_end : (sizes bs : List ℕ) (k : ℕ) → length sizes ≤ k → states_number (drop k sizes) (drop k bs) ≡ 0
 states_end sizes bs k past = grind (arith, drop_all)
-
--- one more digit of a number, from the last one on
-pub digit_rest : (sizes : List ℕ) (p j : ℕ) → j < length sizes → p / product_of (drop j sizes) ≡ p / product_of (drop (j + 1) sizes) / get_or sizes j 0
-digit_rest sizes p j component = grind (arith, (drop_more sizes j 0 component), (div-div-eq-div-mul p (product_of (drop (j + 1) sizes)) (get_or sizes j 0)))
-
--- all digits of a number
-pub digits_all : (n : Sizes) (parts : List ℕ) (p k : ℕ) → p < count n → k ≡ 0 → length n.seats ≤ length parts →
-    ((i : ℕ) → k ≤ i → i < length n.seats → get_or parts i 0 ≡ slice_index (pair_at n p).bs i) → take (length n.seats) parts ≡ (pair_at n p).bs
-digits_all n parts p k in_range here room states =
-    let many : length (pair_at n p).bs ≡ length n.seats = AreBelow-length n.seats (pair_at n p).bs (IsPairOf-at n p in_range).bs in
-    let few = length-take-le (length n.seats) parts room in
-    ext_get_or 0 (take (length n.seats) parts) (pair_at n p).bs (few ∙ sym many) (λ i l. grind (arith, (get_or-take (length n.seats) parts i 0), (states i)))
-
--- the digits of a number in a table
-pub ruleset digit_rules = (digit_rest, digits_all, part_at, get_or-set_same, get_or-set_other, length-set)

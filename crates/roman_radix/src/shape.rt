@@ -8,11 +8,8 @@ ghost use Rattle.roman_radix.specs.Radix.{IsSizes, stride_of, env_stride_of, tar
 ghost use Rattle.roman_radix.specs.Places.{padded, strides_of};
 ghost use Rattle.roman_radix.specs.Rows.{low_of, lanes_of, row_sizes};
 
-use roman_model::MAX_SERVICES;
+use roman_model::{MAX_SERVICES, PLACES};
 use std::marker::Model;
-
-/// The greatest number of components.
-const PLACES: usize = MAX_SERVICES as usize;
 
 /// The greatest number of pairs in a row: one for each bit of a word.
 const MAX_LANES: u32 = 64;
@@ -236,27 +233,6 @@ impl Shape {
         let (stride, size) = self.part(k as usize);
         let (_, state) = divided(p / stride, size);
         state
-    }
-
-    /// Returns the states of the components at pair `p`, in order, in the first places of a table. The
-    /// other places are unspecified.
-    #[tactic(auto, using(crate::proofs::Moves::digit_rules))]
-    pub fn parts_of(&self, p: u32) -> [u8; PLACES]
-        requires { p < count self.now }
-        ensures { take (length self.now.seats) result ≡ (pair_at self.now p).bs }
-    {
-        self.known();
-        let mut parts = [0; PLACES];
-        let mut rest = p;
-        let mut k = self.components as usize;
-        while k > 0 {
-            k -= 1;
-            let (_, size) = self.part(k);
-            let (whole, state) = divided(rest, size);
-            parts[k] = state;
-            rest = whole;
-        }
-        parts
     }
 
     /// Returns the number of the pair that differs from pair `p` only in component `k`, which has
@@ -484,7 +460,6 @@ mod tests {
         let shape = Shape::new(3, 2, &[2, 4], 48).ok_or("48 pairs")?;
         assert_eq!(rt; shape.number(2, 1, &[1, 3]), 47);
         assert_eq!(rt; shape.part_of(45, 1), 1);
-        assert_eq!(rt; shape.parts_of(47)[..2], [1, 3][..]);
         assert_eq!(rt; shape.without(45, 0), 21);
         let grown = shape.grow(5, 240).ok_or("240 pairs")?;
         assert_eq!(rt; shape.grown(45, 5, 2), 227);

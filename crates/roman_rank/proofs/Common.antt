@@ -12,6 +12,7 @@ pub use Rattle.std.specs.List.{IsDistinct}
 pub use Rattle.std.specs.Prelude.{IfSome, count_by, max, min}
 pub use Rattle.roman_io.specs.Sink.{Puts}
 pub use Rattle.roman_joint.specs.NamedSys.{IsNamedSys, NamedSys, system_of}
+pub use Rattle.roman_joint.specs.Pairs.{arena_of}
 pub use Rattle.roman_model.proofs.CallerLemmas.{HasNoRepeats-filter, by_test, depth_least, depth_won, filter_in, from_pairs, great_holds, in_filter, in_pairs, last_is_steady, length-below, loses_down, loses_up, lost_fails, lost_unrelated, numbered_listed, numbered_loses, numbers_are_pairs, pairs_once, related_great, settled_exact, sum_over_pairs, unlost_holds}
 pub use Rattle.roman_model.specs.Arena.{Arena, Entry, is_listed, loses}
 pub use Rattle.roman_model.specs.Composition.{Great, couple}
@@ -23,9 +24,9 @@ pub use Rattle.roman_model.specs.Play.{DepthPlayWins, IsLeast}
 pub use Rattle.roman_model.specs.System.{IsPair, IsSys, Pair, Sys}
 pub use Rattle.roman_model.specs.SystemArena.{arena, pairs}
 pub use Rattle.roman_order.specs.Board.{Board, as_entry, has_entry, nodes_of, pairs_of}
-pub use Rattle.roman_order.specs.Walks.{IsAhead}
+pub use Rattle.roman_order.specs.ReadAhead.{IsAhead}
 pub use Rattle.roman_relation.proofs.CallerLemmas.{listed_is, listed_numbers}
-pub use Rattle.roman_relation.specs.Greatest.{HasCompleteList, arena_of, row_lanes}
+pub use Rattle.roman_relation.specs.Greatest.{HasCompleteList, row_lanes}
 pub use Rattle.roman_relation.specs.Settled.{AreLevels, IsSettled}
 pub use Rattle.roman_relation.specs.Shaped.{IsShaped}
 pub use Rattle.roman_rules.proofs.CallerLemmas.{from_nodes, in_nodes, numbered_arena}

@@ -17,8 +17,7 @@ count_front xs p q (suc n) l same =
     ap (count_by p) more ∙ omega (arith, one, two, last, front)
 
 pub count_places : (xs : List ℕ) (p q : ℕ → Bool) (n : ℕ) → length xs ≡ n → ((i : ℕ) → i < n → p (get_or xs i 0) ≡ q i) → count_by p xs ≡ count_by q (below n)
-count_places xs p q n long same =
-    ap (count_by p) (sym (take-length xs) ∙ ap (λ m. take m xs) long) ∙ count_front xs p q n (omega (arith, long)) same
+count_places xs p q n long same = ap (count_by p) (sym (take-length xs) ∙ ap (λ m. take m xs) long) ∙ count_front xs p q n (omega (arith, long)) same
 
 -- if an element passes the test, the count is positive
 pub count_there : (p : ℕ → Bool) (xs : List ℕ) (i : ℕ) → i < length xs → IsTrue (p (get_or xs i 0)) → 0 < count_by p xs
@@ -29,9 +28,8 @@ count_there p (x ∷ xs) (suc i) l t = let rest : 0 < count_by p xs = count_ther
 -- if the count is positive, an element passes the test
 pub count_place : (p : ℕ → Bool) (xs : List ℕ) → 0 < count_by p xs → (i : ℕ) × (i < length xs) × IsTrue (p (get_or xs i 0))
 count_place p [] l = (let none : ⊥ = omega arith in absurd none)
-count_place p (x ∷ xs) l = by_test (p x)
-    (λ t. (0, omega arith, t))
-    (λ f.
+count_place p (x ∷ xs) l =
+    by_test (p x) (λ t. (0, omega arith, t)) (λ f.
     let none : one_if (p x) ≡ 0 = cond-false (p x) 1 0 f in
     let (i, k, t) = count_place p xs (omega (arith, sum_by-cons (λ y. cond (p y) 1 0) x xs, none)) in
     (suc i, omega arith, t))

@@ -184,5 +184,4 @@ next_line counts n bytes l e =
 
 -- the pieces of the text
 pub whole_pieces : (head lines last one three : List ℕ) → one ≡ head → three ≡ last → one ++ (lines ++ (three ++ [])) ≡ head ++ lines ++ last
-whole_pieces head lines last one three e f =
-    ap₂ (λ xs ys. xs ++ (lines ++ ys)) e (append-nil three ∙ f) ∙ sym (append_assoc head lines last)
+whole_pieces head lines last one three e f = ap₂ (λ xs ys. xs ++ (lines ++ ys)) e (append-nil three ∙ f) ∙ sym (append_assoc head lines last)

@@ -42,7 +42,7 @@ pub(crate) fn depths_by<J: Rules>(
 }
 
 /// Sets the depth of the pairs of the entries from `start` up to `end` to `n`. Looks for the first of
-/// these entries in the event at place `near`, and then elsewhere. Returns the place of the event in
+/// these entries in the batch at place `near`, and then elsewhere. Returns the place of the batch in
 /// which the search for the next level begins.
 fn give_depth(order: &Order, depths: &mut [u32], start: u32, end: u32, n: u32, near: usize) -> usize
     requires pairs { length depths.old ≡ pairs_of order.now }
@@ -52,7 +52,7 @@ fn give_depth(order: &Order, depths: &mut [u32], start: u32, end: u32, n: u32, n
     order.known(); // listed pairs are pairs of the system
     let mut ahead = Ahead::nothing(near);
     for i in start..end {
-        let (pair, _) = order.walk(i, &mut ahead);
+        let (pair, _) = order.read_on(i, &mut ahead);
         depths[pair as usize] = n;
     }
     ahead.next()

@@ -5,11 +5,11 @@ ghost use Rattle.roman_model.specs.Composition.{Great};
 ghost use Rattle.roman_model.specs.Numbers.{sizes_of, pair_at};
 ghost use Rattle.roman_model.specs.Play.{IsLeast};
 ghost use Rattle.roman_joint.specs.NamedSys.{system_of};
-ghost use Rattle.roman_relation.specs.Shaped.{IsShaped};
-ghost use Rattle.roman_relation.specs.Greatest.{arena_of, row_lanes, HasCompleteList};
+ghost use Rattle.roman_relation.specs.Greatest.{HasCompleteList, IsShapedFor};
 ghost use Rattle.roman_model.specs.Counting.{Counts};
 ghost use Rattle.roman_rank.specs.Depths.{IsGreatest};
 ghost use Rattle.roman_rank.specs.Ranking.{depth_in, AreDepths, AreRanks, IsRanking};
+ghost use Rattle.roman_joint.specs.Pairs.{arena_of};
 
 use crate::counting::counts_of;
 use crate::levels::{depths_anew, depths_by};
@@ -63,7 +63,7 @@ impl Ranks {
         steps: &mut Steps<L>,
     ) -> Result<Ranks, AllocError>
         requires complete { HasCompleteList relation.now.joint relation.now.order }
-        requires shaped { IsShaped (arena_of relation.now.joint) (row_lanes relation.now.joint) relation.now.order }
+        requires shaped { IsShapedFor relation.now.joint relation.now.order }
         ensures depths { IfOk result (AreDepths (system_of relation.now.joint)) }
     {
         relation.joint.known(); // the system is well formed, a pair's number fits 32 bits
@@ -96,8 +96,7 @@ impl Ranks {
     /// Returns the greatest depth, or `None` exactly when every pair is related.
     pub fn deepest(&self) -> Option<u32>
         ensures greatest { (s : Sys) → AreDepths s self.now → IfSome result (IsGreatest s) }
-        ensures related { (s : Sys) → AreDepths s self.now →
-            (result ≡ None) ↔ ((p : Pair) → IsPair s p → Great s p) }
+        ensures related { (s : Sys) → AreDepths s self.now → (result ≡ None) ↔ ((p : Pair) → IsPair s p → Great s p) }
     {
         let levels = self.counts.len() as u32;
         if levels == 0 { None } else { Some(levels - 1) }
@@ -135,7 +134,7 @@ fn depths_of<L: Ledger>(
     steps: &mut Steps<L>,
 ) -> Result<Vec<u32>, AllocError>
     requires complete { HasCompleteList relation.now.joint relation.now.order }
-    requires shaped { IsShaped (arena_of relation.now.joint) (row_lanes relation.now.joint) relation.now.order }
+    requires shaped { IsShapedFor relation.now.joint relation.now.order }
     ensures { IfOk result (λ depths. AreRanks (arena_of relation.now.joint) depths.items) }
 {
     relation.joint.known(); // the system is well formed, a pair's number fits 32 bits

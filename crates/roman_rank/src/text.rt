@@ -41,7 +41,8 @@ fn head_piece(pairs: u32, related: u32) -> Piece
 /// Pushes a line for each count on the page.
 fn push_levels<O: Sink>(counts: &[u32], page: &mut Page, out: &mut O) -> Result<(), Failed>
     requires { length counts.now < 2 ^ 32 }
-    ensures gathers { Gathers (O.written out.old) (O.written out.new) page.new (page.old ++ level_lines 0 counts.now) result }
+    ensures gathers { Gathers (O.written out.old) (O.written out.new) page.new
+        (page.old ++ level_lines 0 counts.now) result }
     ensures cause { HasCause (O.faults out.old) (O.faults out.new) result }
 {
     for (n, count) in counts.iter().enumerate() {

@@ -1,7 +1,7 @@
 -- The lemmas of this crate that proofs of other crates may cite. All else in proofs/ can be renamed freely.
 
 -- The place of a name in a list of names.
-pub use Rattle.roman_read.proofs.NameLemmas.{place_of-absent, place_of-present, position-none, position-some}
+pub use Rattle.roman_read.proofs.NameLemmas.{IsPast, past_found, past_next, past_none, place_of-absent, place_of-present, position-none, position-some}
 -- Loops over the items of a list, each of which may be refused: the remaining steps give the result of all steps.
 pub use Rattle.roman_read.proofs.ReadingLemmas.{IsLeft, at_start, each, ends, goes_on, is_done, pushed_ends, pushed_on, pushes}
 -- Readings that succeed, and their values.

@@ -1,10 +1,11 @@
 -- The room of a name, and the place of a name in a list of names.
-use Rattle.std.proofs.Common.{◌≡◌, ℕ, zero, suc, ◌+◌, ◌-◌, ◌<◌, ◌≤◌, List, [], ◌∷◌, ◌++◌, length, replicate, take, drop, Bool, true, false, ◌&&◌, ◌||◌, Some, None, IsTrue, slice_get, true≢false, refl, sym, ap, ◌∙◌, arith}
+use Rattle.std.proofs.Common.{◌≡◌, ℕ, zero, suc, ◌+◌, ◌-◌, ◌<◌, ◌≤◌, List, [], ◌∷◌, ◌++◌, length, replicate, take, drop, Bool, true, false, ◌&&◌, ◌||◌, Some, None, IsTrue, slice_get, true≢false, refl, sym, ap, ◌∙◌, arith, get_or}
 use Rattle.std.specs.List.{list_all, list_any, position, position_or_len, AllByRecursion, IsDistinct}
 use Rattle.std.specs.Str.{bytes_eq}
-use Rattle.std.proofs.lemmas.Bool.{le-ltb, lt-ltb, or_from}
+use Rattle.std.proofs.Math.Seq.{drop-cons}
+use Rattle.std.proofs.lemmas.Bool.{cond-false, cond-true, le-ltb, lt-ltb, or_from}
 use Rattle.std.proofs.lemmas.Option.{none-some, same_Some, slice_get_within, get_or_from_slice_get}
-use Rattle.std.proofs.lemmas.List.{drop-replicate, take_more}
+use Rattle.std.proofs.lemmas.List.{drop-replicate, drop_all, take_more}
 use Rattle.std.proofs.lemmas.Map.Keys.{IsDistinct-head, IsDistinct-tail}
 use Rattle.std.proofs.lemmas.Slice.Eq.{bytes_eq-Decides}
 use Rattle.roman_read.specs.Names.{is_name, place_of}
@@ -70,6 +71,21 @@ none_before (x ∷ names) (suc i) name apart at =
 pub take_name : (names : List (List ℕ)) (i : ℕ) (name : List ℕ) → slice_get names i ≡ Some name → take (i + 1) names ≡ take i names ++ name ∷ []
 take_name names i name at =
     take_more names i [] (slice_get_within names i name at) ∙ ap (λ n. take i names ++ n ∷ []) (get_or_from_slice_get names i name [] at)
+
+-- the names before place k are others
+pub record IsPast (names : List (List ℕ)) (name : List ℕ) (k : ℕ) : Type 0 where
+  pub place : position_or_len (bytes_eq name) names ≡ k + position_or_len (bytes_eq name) (drop k names)
+
+pub past_next : (names : List (List ℕ)) (name : List ℕ) (k : ℕ) → IsPast names name k → k < length names → bytes_eq name (get_or names k []) ≡ false → IsPast names name (k + 1)
+past_next names name k past l other = grind (arith, cond-false, drop-cons)
+
+-- the name at place k is the first that is the same
+pub past_found : (names : List (List ℕ)) (name : List ℕ) (k : ℕ) → IsPast names name k → k < length names → bytes_eq name (get_or names k []) ≡ true → place_of names name ≡ Some k
+past_found names name k past l same = grind (arith, cond-true, drop-cons, lt-ltb)
+
+-- all names are others
+pub past_none : (names : List (List ℕ)) (name : List ℕ) (k : ℕ) → IsPast names name k → length names ≤ k → place_of names name ≡ None
+past_none names name k past l = grind (arith, drop_all, le-ltb)
 
 -- the rules for adding and finding names
 pub ruleset places = (place_of-absent, place_of-present, place_is_length, place_of-no_name)

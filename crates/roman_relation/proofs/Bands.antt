@@ -1,5 +1,5 @@
 -- Rows as parts of bands.
-use Rattle.roman_relation.proofs.Common.{◌≡◌, ℕ, ◌+◌, ◌*◌, ◌/◌, ◌%◌, ◌<◌, ◌≤◌, ◌-◌, ◌⊎◌, length, ap, ◌∙◌, arith, cases_lt, mul-le, div_below, div-add-mod', mod_below, Arena, Board, IsShaped, lane_place, div-le_self}
+use Rattle.roman_relation.proofs.Common.{◌≡◌, ℕ, ◌+◌, ◌*◌, ◌/◌, ◌%◌, ◌<◌, ◌≤◌, ◌-◌, ◌⊎◌, length, ap, ◌∙◌, arith, cases_lt, mul-le, div_below, div-add-mod', mod_below, Arena, Board, IsShaped, lane_place, div-le_self, row_fits}
 use Rattle.roman_relation.proofs.Lanes.{shaped_pairs, shaped_row, shaped_rows}
 
 -- a pair from its band, its row within the band, and its lane
@@ -17,13 +17,9 @@ band_at band y row low high = grind (arith, lane_place)
 pub outside_band : (band y row : ℕ) → 0 < band → (row / band ≡ y → ⊥) → (row < y * band) ⊎ (y * band + band ≤ row)
 outside_band band y row some ne = grind (arith, band_at, cases_lt)
 
--- a band below the number of bands ends within their rows
-pub band_ends : (band y bands : ℕ) → y < bands → y * band + band ≤ bands * band
-band_ends band y bands l = grind (arith, mul-le)
-
 -- a band below the number of bands ends within the order
 pub band_inside : (A : Arena ℕ) (lanes band bands y : ℕ) (b : Board) → IsShaped A lanes b → 0 < lanes → bands * band * lanes ≡ length A.nodes → y < bands → y * band + band ≤ b.rows
-band_inside A lanes band bands y b shaped some e l = omega (arith, band_ends band y bands l, shaped_rows A lanes (bands * band) b shaped some e)
+band_inside A lanes band bands y b shaped some e l = omega (arith, row_fits y band bands band l (omega arith), shaped_rows A lanes (bands * band) b shaped some e)
 
 -- a pair's band is below the number of bands
 pub band_of : (A : Arena ℕ) (lanes band bands p : ℕ) (b : Board) → IsShaped A lanes b → 0 < lanes → 0 < band → bands * band * lanes ≡ length A.nodes → p < length A.nodes → p / lanes / band < bands

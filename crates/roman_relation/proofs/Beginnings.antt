@@ -41,8 +41,7 @@ shaped_on A lanes b c s g = rw g.rest (record { pairs = s.pairs; lanes = s.lanes
 
 -- the fall of a longer list is that of its prefix and that of the rest
 pub fall_added : (A : Arena ℕ) (L M : List (Entry ℕ)) → Begins L M → fall A M ≡ fall A L + fall A (drop (length L) M)
-fall_added A L M b =
-    ap (fall A) (sym (take-append-drop (length L) M) ∙ ap (λ N. N ++ drop (length L) M) b) ∙ fall_append A L (drop (length L) M)
+fall_added A L M b = ap (fall A) (sym (take-append-drop (length L) M) ∙ ap (λ N. N ++ drop (length L) M) b) ∙ fall_append A L (drop (length L) M)
 
 -- a list that begins with a list of the same length is that list
 pub same_list : (L M : List (Entry ℕ)) → Begins L M → length M ≡ length L → M ≡ L

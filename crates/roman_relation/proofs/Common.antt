@@ -9,13 +9,14 @@ pub use Rattle.std.proofs.lemmas.List.{drop-append-le, drop_all, get_or-append_r
 pub use Rattle.std.proofs.lemmas.List.Folds.{list_any-append}
 pub use Rattle.std.proofs.lemmas.List.Sums.{count_by-le-length, sum_by_push}
 pub use Rattle.std.proofs.lemmas.Map.Keys.{IsDistinct-head, IsDistinct-tail}
-pub use Rattle.std.proofs.lemmas.Nat.{and_le_l, div-add-mod', div_below, mod_below, mul-le, same_from_place}
+pub use Rattle.std.proofs.lemmas.Nat.{and_le_l, div-add-mod', div_below, mod_below, mul-le, row_fits, same_from_place}
 pub use Rattle.std.proofs.lemmas.Nat.Bits.{bit_at-zero}
 pub use Rattle.std.proofs.lemmas.Option.{get_or_from_slice_get, slice_get_within}
 pub use Rattle.std.specs.Int.{bit_at}
 pub use Rattle.std.specs.List.{IsDistinct}
 pub use Rattle.std.specs.Prelude.{count_by}
 pub use Rattle.roman_joint.specs.NamedSys.{IsNamedSys, NamedSys, system_of}
+pub use Rattle.roman_joint.specs.Pairs.{arena_of}
 pub use Rattle.roman_lanes.proofs.CallerLemmas.{on_and, on_zero}
 unfoldable pub use Rattle.roman_lanes.specs.Flags.{has_flag}
 pub use Rattle.roman_lanes.specs.Rows.{AreRows, HasLanes, Keeps}
@@ -30,15 +31,15 @@ pub use Rattle.roman_model.specs.System.{Sys}
 pub use Rattle.roman_model.specs.SystemArena.{pairs}
 pub use Rattle.roman_model.specs.declared.reason.Reason.{Reason}
 pub use Rattle.roman_model.specs.declared.reason.Reason.TheVariants.{Act, Final}
-pub use Rattle.roman_order.proofs.CallerLemmas.{all_in, has_entry-event, in_lanes, lane_place, length-entries_at, on_in, rewritten_whole, some_lane}
+pub use Rattle.roman_order.proofs.CallerLemmas.{all_in, has_entry-batch, in_lanes, lane_place, length-entries_at, on_in, rewritten_whole, some_lane}
 pub use Rattle.roman_order.specs.Board.{Board, as_entry, entries_in, entries_in_rows, has_entry, is_marked, nodes_of, pairs_of, set_lanes}
-pub use Rattle.roman_order.specs.Events.{IsEvent, entries_at}
-pub use Rattle.roman_order.specs.Walks.{AreUnkept}
-pub use Rattle.roman_order.specs.declared.event.Event.{Event}
+pub use Rattle.roman_order.specs.Batches.{IsBatch, entries_at}
+pub use Rattle.roman_order.specs.ReadAhead.{AreUnkept}
+pub use Rattle.roman_order.specs.declared.batch.Batch.{Batch}
 pub use Rattle.roman_rules.proofs.CallerLemmas.{numbered_same, sum_below_more, sum_further, sum_turned}
 pub use Rattle.roman_rules.specs.Bits.{bit_of}
 pub use Rattle.roman_rules.specs.Numbered.{IsNumbered}
-pub use Rattle.roman_relation.specs.Greatest.{HasCaps, HasCompleteList, arena_of}
+pub use Rattle.roman_relation.specs.Greatest.{HasCaps, HasCompleteList}
 pub use Rattle.roman_relation.specs.Rounds.{AddsLost, AddsTo, AreLostRows, AreNoted, AreUnlisted, AwaitsRound, IsJudged, falls, has_band, moves_noted, moves_to}
 pub use Rattle.roman_relation.specs.Settled.{AreLevels, Begins, HoldsLost, IsSettled, RisesByDepth, SettlesOn}
 pub use Rattle.roman_relation.specs.Shaped.{IsShaped}

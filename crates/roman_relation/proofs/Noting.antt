@@ -1,5 +1,5 @@
 -- The bands that were noted in a round.
-use Rattle.roman_relation.proofs.Common.{◌≡◌, ◌≢◌, ℕ, zero, suc, ◌+◌, ◌-◌, ◌*◌, ◌/◌, ◌%◌, ◌<◌, ◌≤◌, Bool, true, false, cond, ◌==◌, not, List, [], ◌++◌, length, take, drop, slice_index, IsTrue, IsFalse, inl, inr, refl, sym, ap, ◌∙◌, subst, arith, take-append-drop, cases_eq, both_ways, eqb-true, or_left, or_cases, false_from_ne_true, not_from_false, eq-eqb, ne_eqb, by_test, sum_by_same, fall_append, any_from, any_true, from_map, in_append_left, in_append_right, none_from, listed_append, listed_in, same_test, or-false, length-take-le, drop-append-le, list_any-append, sum_by_push, IsIn, below, Arena, Entry, is_listed, fall, IsNumbered, numbered_same, is_on, HasLanes, Board, is_marked, as_entry, has_entry, pairs_of, nodes_of, IsDistinct, IsEvent, entries_at, Event, in_lanes, lane_place, AreUnkept, AreNoted, AreUnlisted, moves_to, moves_noted, has_band, div-add-mod', div_below, mod_below, take-add}
+use Rattle.roman_relation.proofs.Common.{◌≡◌, ◌≢◌, ℕ, zero, suc, ◌+◌, ◌-◌, ◌*◌, ◌/◌, ◌%◌, ◌<◌, ◌≤◌, Bool, true, false, cond, ◌==◌, not, List, [], ◌++◌, length, take, drop, slice_index, IsTrue, IsFalse, inl, inr, refl, sym, ap, ◌∙◌, subst, arith, take-append-drop, cases_eq, both_ways, eqb-true, or_left, or_cases, false_from_ne_true, not_from_false, eq-eqb, ne_eqb, by_test, sum_by_same, fall_append, any_from, any_true, from_map, in_append_left, in_append_right, none_from, listed_append, listed_in, same_test, or-false, length-take-le, drop-append-le, list_any-append, sum_by_push, IsIn, below, Arena, Entry, is_listed, fall, IsNumbered, numbered_same, is_on, HasLanes, Board, is_marked, as_entry, has_entry, pairs_of, nodes_of, IsDistinct, IsBatch, entries_at, Batch, in_lanes, lane_place, AreUnkept, AreNoted, AreUnlisted, moves_to, moves_noted, has_band, div-add-mod', div_below, mod_below, take-add}
 use Rattle.roman_relation.proofs.Beginnings.{take_listed}
 use Rattle.roman_relation.proofs.Losses.{first_lane, in_entries}
 use Rattle.roman_relation.proofs.Pushing.{entry_new}
@@ -7,8 +7,8 @@ use Rattle.roman_relation.proofs.Marks.{sum_one_more}
 
 -- ---- the bands of entries
 
--- an event's band is that of one of its entries
-pub own_band : (n w : ℕ) (L : List (Entry ℕ)) (e : Event) → IsEvent n e → has_band n w (L ++ entries_at n e) (e.row / w) ≡ true
+-- a batch's band is that of one of its entries
+pub own_band : (n w : ℕ) (L : List (Entry ℕ)) (e : Batch) → IsBatch n e → has_band n w (L ++ entries_at n e) (e.row / w) ≡ true
 own_band n w L e is =
     let (lane, low, on) = first_lane e.lanes is.some in
     let y : ℕ = e.row / w in
@@ -16,7 +16,7 @@ own_band n w L e is =
     (eq-eqb y ((e.row * n + lane) / n / w) (ap (λ x. x / w) (sym (lane_place n e.row lane (is.within lane on)).0)))
 
 -- no other band is
-pub other_band : (n w z : ℕ) (L : List (Entry ℕ)) (e : Event) → IsEvent n e → z ≢ e.row / w → has_band n w (L ++ entries_at n e) z ≡ has_band n w L z
+pub other_band : (n w z : ℕ) (L : List (Entry ℕ)) (e : Batch) → IsBatch n e → z ≢ e.row / w → has_band n w (L ++ entries_at n e) z ≡ has_band n w L z
 other_band n w z L e is ne = grind (arith, from_map, in_lanes, lane_place, list_any-append, ne_eqb, none_from, or-false)
 
 -- a pair that wasn't listed at the start lies in the band of a later entry

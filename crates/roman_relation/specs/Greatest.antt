@@ -1,20 +1,21 @@
 -- Relations: a joint with an order of its pairs.
 use Rattle.std.specs.Prelude.{◌≡◌, ℕ, ◌/◌, ◌⊎◌, []}
-use Rattle.roman_model.specs.Arena.{Arena}
-use Rattle.roman_model.specs.Numbers.{numbered, IsCompleteList}
+use Rattle.roman_model.specs.Numbers.{IsCompleteList}
 use Rattle.roman_joint.specs.NamedSys.{NamedSys, system_of}
+use Rattle.roman_joint.specs.Pairs.{arena_of}
 use Rattle.roman_joint.specs.Rows.{lanes_in}
 use Rattle.roman_order.specs.Board.{Board}
 use Rattle.roman_relation.specs.Shaped.{IsShaped}
 use Rattle.roman_relation.specs.Settled.{AreLevels}
-
--- the arena over the numbers of the joint's pairs
-abbrev pub arena_of : NamedSys → Arena ℕ
-arena_of joint = numbered (system_of joint)
+use Rattle.roman_relation.specs.declared.relation.Relation.{Relation}
 
 -- the number of pairs in a row of the joint
 abbrev pub row_lanes : NamedSys → ℕ
 row_lanes joint = lanes_in (system_of joint)
+
+-- the order is shaped for the joint's pairs
+abbrev pub IsShapedFor : NamedSys → Board → Type 0
+IsShapedFor joint order = IsShaped (arena_of joint) (row_lanes joint) order
 
 -- the order has room for exactly as many pairs as a system within the joint's limit can have
 pub record HasCaps (joint : NamedSys) (order : Board) : Type 0 where
@@ -30,5 +31,9 @@ pub record HasCompleteList (joint : NamedSys) (order : Board) : Type 0 where
 -- for every system within the limit
 pub record IsRelation (joint : NamedSys) (order : Board) : Type 0 where
   pub complete : HasCompleteList joint order
-  pub shaped : IsShaped (arena_of joint) (row_lanes joint) order
+  pub shaped : IsShapedFor joint order
   pub caps : HasCaps joint order
+
+-- this holds of the relation's joint and order
+abbrev pub IsUpToDate : Relation → Type 0
+IsUpToDate relation = IsRelation relation.joint relation.order

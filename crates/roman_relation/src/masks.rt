@@ -15,8 +15,7 @@ pub(crate) fn mask<J: Rules>(joint: &J, order: &Order, p: u32, a: u8) -> SeatSet
     requires shaped { IsShaped (J.arena joint.now) (J.lanes joint.now) order.now }
     requires pair { p < length (J.arena joint.now).nodes }
     requires action { a < (J.arena joint.now).actions }
-    ensures { let A = J.arena joint.now in
-        HasBits result (has (mask_of A (is_listed A order.now.list) p a)) }
+    ensures { let A = J.arena joint.now in HasBits result (has (mask_of A (is_listed A order.now.list) p a)) }
 {
     joint.known(); // pairs are told apart by their numbers
     order.known(); // a row has 1 to 64 lanes
@@ -28,8 +27,7 @@ pub(crate) fn mask<J: Rules>(joint: &J, order: &Order, p: u32, a: u8) -> SeatSet
 /// Returns the number of seats in the masks of all pairs and actions together.
 pub(crate) fn choices<J: Rules>(joint: &J, order: &Order) -> u64
     requires { IsShaped (J.arena joint.now) (J.lanes joint.now) order.now }
-    ensures { let A = J.arena joint.now in
-        result ≡ choices A (is_listed A order.now.list) }
+    ensures { let A = J.arena joint.now in result ≡ choices A (is_listed A order.now.list) }
 {
     joint.known(); // a row has 1 to 64 lanes, a band has 1 to 64 rows
     let mut count = 0;
@@ -46,7 +44,10 @@ fn band_choices<J: Rules>(joint: &J, order: &Order, y: u32) -> u64
     requires shaped { IsShaped (J.arena joint.now) (J.lanes joint.now) order.now }
     requires band { y * J.band joint.now < order.now.rows }
     ensures counted { let A = J.arena joint.now in
-        result ≡ sum_by (λ a. sum_by (λ i. sum_by (λ lane. length (mask_of A (is_listed A order.now.list) ((y * J.band joint.now + i) * J.lanes joint.now + lane) a))
+        result
+        ≡ sum_by (λ a. sum_by (λ i. sum_by
+        (λ lane. length (mask_of A (is_listed A order.now.list)
+        ((y * J.band joint.now + i) * J.lanes joint.now + lane) a))
         (below (J.lanes joint.now))) (below (J.band joint.now))) (below A.actions) }
     ensures bound { result ≤ 4194304 }
 {

@@ -11,9 +11,9 @@ ghost use Rattle.roman_rules.specs.Bits.{HasBits};
 ghost use Rattle.roman_joint.specs.NamedSys.{system_of};
 ghost use Rattle.roman_joint.specs.Parts.{HasSameParts};
 ghost use Rattle.roman_order.specs.Board.{has_entry};
-ghost use Rattle.roman_relation.specs.Shaped.{IsShaped};
 ghost use Rattle.roman_relation.specs.Settled.{Begins, RisesByDepth, AreLevels};
-ghost use Rattle.roman_relation.specs.Greatest.{arena_of, row_lanes, HasCaps, HasCompleteList};
+ghost use Rattle.roman_relation.specs.Greatest.{HasCaps, HasCompleteList, IsShapedFor};
+ghost use Rattle.roman_joint.specs.Pairs.{joint_pairs, joint_actions, arena_of};
 
 use crate::masks;
 use crate::rounds::settle_list;
@@ -55,8 +55,9 @@ impl Relation {
         ensures joint { IfOk result (λ relation. relation.joint ≡ joint) }
         ensures complete { IfOk result (λ relation. HasCompleteList relation.joint relation.order) }
         ensures rises { IfOk result (λ relation. RisesByDepth (arena_of relation.joint) relation.order.list) }
-        ensures levels { IfOk result (λ relation. AreLevels (arena_of relation.joint) relation.order.levels relation.order.list) }
-        ensures shaped { IfOk result (λ relation. IsShaped (arena_of relation.joint) (row_lanes relation.joint) relation.order) }
+        ensures levels { IfOk result (λ relation. AreLevels
+            (arena_of relation.joint) relation.order.levels relation.order.list) }
+        ensures shaped { IfOk result (λ relation. IsShapedFor relation.joint relation.order) }
         ensures caps { IfOk result (λ relation. HasCaps relation.joint relation.order) }
     {
         joint.known(); // there is at least one action
@@ -96,8 +97,8 @@ impl Relation {
     /// Returns whether the pair `p` is related, by looking up one bit.
     #[tactic(auto, using(crate::proofs::Relating::counted))]
     pub fn related(&self, p: u32) -> bool
-        requires shaped { IsShaped (arena_of self.now.joint) (row_lanes self.now.joint) self.now.order }
-        requires pair { p < count (sizes_of (system_of self.now.joint)) }
+        requires shaped { IsShapedFor self.now.joint self.now.order }
+        requires pair { p < joint_pairs self.now.joint }
         ensures listed { result ≡ not (has_entry self.now.order.list p) }
         ensures great { let s = system_of self.now.joint in
             HasCompleteList self.now.joint self.now.order
@@ -111,9 +112,8 @@ impl Relation {
     /// Returns the number of related pairs, without a pass over them.
     #[tactic(auto, using(crate::proofs::Relating::counted))]
     pub fn count(&self) -> u32
-        requires { IsShaped (arena_of self.now.joint) (row_lanes self.now.joint) self.now.order }
-        ensures listed { result + length self.now.order.list
-            ≡ count (sizes_of (system_of self.now.joint)) }
+        requires { IsShapedFor self.now.joint self.now.order }
+        ensures listed { result + length self.now.order.list ≡ joint_pairs self.now.joint }
         ensures related { let s = system_of self.now.joint in
             HasCompleteList self.now.joint self.now.order
             → result ≡ length (filter (is_related s) (pairs s)) }
@@ -127,9 +127,9 @@ impl Relation {
     /// allow the action. It is computed from the services, and not stored.
     #[tactic(auto, using(crate::proofs::Relating::counted))]
     pub fn mask(&self, p: u32, a: u8) -> SeatSet
-        requires shaped { IsShaped (arena_of self.now.joint) (row_lanes self.now.joint) self.now.order }
-        requires pair { p < count (sizes_of (system_of self.now.joint)) }
-        requires action { a < (system_of self.now.joint).env.actions }
+        requires shaped { IsShapedFor self.now.joint self.now.order }
+        requires pair { p < joint_pairs self.now.joint }
+        requires action { a < joint_actions self.now.joint }
         ensures { let A = arena_of self.now.joint in
             HasBits result (has (mask A (is_listed A self.now.order.list) p a)) }
     {
@@ -153,9 +153,8 @@ impl Relation {
     /// Returns the number of services in the masks of all pairs and actions together, whether the
     /// pairs are related or not. Computes the masks anew, band by band.
     pub fn choices(&self) -> u64
-        requires { IsShaped (arena_of self.now.joint) (row_lanes self.now.joint) self.now.order }
-        ensures { HasCompleteList self.now.joint self.now.order
-            → result ≡ choice_count (system_of self.now.joint) }
+        requires { IsShapedFor self.now.joint self.now.order }
+        ensures { HasCompleteList self.now.joint self.now.order → result ≡ choice_count (system_of self.now.joint) }
     {
         self.joint.known(); // the system is well formed
         self.order.known(); // listed pairs are pairs of the system
@@ -172,7 +171,7 @@ impl Relation {
         ensures complete { HasCompleteList self.new.joint self.new.order }
         ensures rises { RisesByDepth (arena_of self.new.joint) self.new.order.list }
         ensures levels { AreLevels (arena_of self.new.joint) self.new.order.levels self.new.order.list }
-        ensures shaped { IsShaped (arena_of self.new.joint) (row_lanes self.new.joint) self.new.order }
+        ensures shaped { IsShapedFor self.new.joint self.new.order }
         ensures caps { HasCaps self.new.joint self.new.order }
     {
         self.joint.known(); // the system is well formed and within its limit
@@ -185,7 +184,7 @@ impl Relation {
     /// those before it, and an order without waiting entries. Counts at most as many steps as
     /// delegations lead to the added pairs. Levels are kept only where the list was empty.
     pub fn settle<L: Ledger>(&mut self, steps: &mut Steps<L>)
-        requires shaped { IsShaped (arena_of self.old.joint) (row_lanes self.old.joint) self.old.order }
+        requires shaped { IsShapedFor self.old.joint self.old.order }
         requires valid { IsOrder (arena_of self.old.joint) self.old.order.list }
         requires idle { self.old.order.waiting ≡ [] }
         ensures complete { HasCompleteList self.new.joint self.new.order }

@@ -50,20 +50,20 @@ pub fn play_round<J: Rules, L: Ledger>(joint: &J, order: &mut Order, steps: &mut
     ensures goes_on { SettlesOn (J.arena joint.now) order.old order.new }
     ensures only { let A = J.arena joint.now in
         (p : ℕ) → IsTrue (is_listed A order.new.list p) →
-        IsTrue (is_listed A order.old.list p) ⊎ (is_marked order.old (p / J.lanes joint.now / J.band joint.now) ≡ true) }
+        IsTrue (is_listed A order.old.list p)
+        ⊎ (is_marked order.old (p / J.lanes joint.now / J.band joint.now) ≡ true) }
     ensures lost { (n : ℕ) → HoldsLost (J.arena joint.now) n order.old.list →
         HoldsLost (J.arena joint.now) (suc n) order.new.list }
-    ensures settled { length order.new.list ≡ length order.old.list →
-        IsSettled (J.arena joint.now) order.new.list }
-    ensures cost { steps.new
-        ≤ steps.old + fall (J.arena joint.now) (drop (length order.old.list) order.new.list) }
-    ensures steps { steps.new ≡ steps.old + moves_to_all (J.arena joint.now) (J.lanes joint.now) (J.band joint.now) (J.mid joint.now) order.old.rows
+    ensures settled { length order.new.list ≡ length order.old.list → IsSettled (J.arena joint.now) order.new.list }
+    ensures cost { steps.new ≤ steps.old + fall (J.arena joint.now) (drop (length order.old.list) order.new.list) }
+    ensures steps { steps.new ≡ steps.old + moves_to_all (J.arena joint.now) (J.lanes joint.now) (J.band joint.now)
+        (J.mid joint.now) order.old.rows
         (drop (length order.old.list) order.new.list) }
 {
     joint.known(); // outcomes are pairs of the system
     order.known(); // each row has a kept word, listed pairs are pairs of the system
     let start = order.len();
-    let near = order.events().len();
+    let near = order.batches().len();
     judge_marked(joint, order);
     mark_losses(joint, order, start, near, steps);
 }
@@ -88,8 +88,7 @@ pub fn settle_list<J: Rules, L: Ledger>(joint: &J, order: &mut Order, steps: &mu
     ensures levels { order.old.list ≡ [] → AreLevels (J.arena joint.now) order.new.levels order.new.list }
     ensures forgotten { order.old.list ≢ [] → order.new.levels ≡ [] }
     ensures rises { order.old.list ≡ [] → RisesByDepth (J.arena joint.now) order.new.list }
-    ensures cost { steps.new
-        ≤ steps.old + fall (J.arena joint.now) (drop (length order.old.list) order.new.list) }
+    ensures cost { steps.new ≤ steps.old + fall (J.arena joint.now) (drop (length order.old.list) order.new.list) }
 {
     joint.known(); // pairs are told apart by their numbers
     let is_fresh = order.len() == 0;

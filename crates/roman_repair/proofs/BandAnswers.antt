@@ -1,5 +1,5 @@
 -- The answers of a band of rows.
-use Rattle.roman_repair.proofs.Common.{◌≡◌, ℕ, ◌+◌, ◌-◌, ◌*◌, ◌/◌, ◌^◌, ◌<◌, ◌≤◌, Bool, true, ◌&&◌, ◌||◌, List, [], ◌∷◌, ◌++◌, length, slice_index, Option, None, Some, IsTrue, ap, ◌∙◌, arith, replicate, or_cases, or_left, or_right, both_ways, div-add-mod', mul-le-mul_left, is_on, Keeps, on_full, on_zero, any_from, any_true, justified_more, listed_append, Arena, Entry, is_listed, Reason, Final, Act, HoldsInBand, IsKnown, passes, get_or-replicate, get_or_append_left, AskedBand}
+use Rattle.roman_repair.proofs.Common.{◌≡◌, ℕ, ◌+◌, ◌-◌, ◌*◌, ◌/◌, ◌^◌, ◌<◌, ◌≤◌, Bool, true, ◌&&◌, ◌||◌, List, [], ◌∷◌, ◌++◌, length, slice_index, Option, None, Some, IsTrue, ap, ◌∙◌, arith, replicate, or_cases, or_left, or_right, both_ways, div-add-mod', mul-le-mul_left, is_on, Keeps, on_full, on_zero, any_from, any_true, justified_more, listed_append, Arena, Entry, is_listed, Reason, Final, Act, HoldsInBand, IsKnown, passes, get_or-replicate, get_or_append_left, BandProbe}
 
 -- a word of no lanes says nothing
 pub none_known : (A : Arena ℕ) (lanes : ℕ) (gone : ℕ → Bool) (alone : Option ℕ) (x : ℕ) (reason : Reason) → IsKnown A lanes gone alone x reason 0
@@ -38,8 +38,8 @@ pub listed_more : (A : Arena ℕ) (kept L : List (Entry ℕ)) (q : ℕ) → IsTr
 listed_more A kept L q t = listed_append A kept L q ∙ or_left (is_listed A kept q) (is_listed A L q) t
 
 -- and so what is known stays known
-pub known_more : (A : Arena ℕ) (lanes : ℕ) (asked : AskedBand) (kept L : List (Entry ℕ)) → HoldsInBand A lanes (is_listed A kept) asked → HoldsInBand A lanes (is_listed A (kept ++ L)) asked
-known_more A lanes asked kept L known = record { row = still known.row; rows = λ i h. still (known.rows i h) }
+pub known_more : (A : Arena ℕ) (lanes : ℕ) (probe : BandProbe) (kept L : List (Entry ℕ)) → HoldsInBand A lanes (is_listed A kept) probe → HoldsInBand A lanes (is_listed A (kept ++ L)) probe
+known_more A lanes probe kept L known = record { row = still known.row; rows = λ i h. still (known.rows i h) }
   where
-    still : {x : ℕ} {reason : Reason} {word : ℕ} → IsKnown A lanes (is_listed A kept) asked.alone x reason word → IsKnown A lanes (is_listed A (kept ++ L)) asked.alone x reason word
-    still is = record { each = λ lane l on. passes_more A _ _ asked.alone _ _ (listed_more A kept L) (is.each lane l on) }
+    still : {x : ℕ} {reason : Reason} {word : ℕ} → IsKnown A lanes (is_listed A kept) probe.alone x reason word → IsKnown A lanes (is_listed A (kept ++ L)) probe.alone x reason word
+    still is = record { each = λ lane l on. passes_more A _ _ probe.alone _ _ (listed_more A kept L) (is.each lane l on) }

@@ -17,6 +17,7 @@ pub use Rattle.roman_joint.proofs.CallerLemmas.{Behaves, behaves, in_sizes, join
 pub use Rattle.roman_joint.specs.Behaviours.{IsSeatBehaviour}
 pub use Rattle.roman_joint.specs.Changes.{with_frozen}
 pub use Rattle.roman_joint.specs.NamedSys.{IsNamedSys, NamedSys, seat_of, system_of}
+pub use Rattle.roman_joint.specs.Pairs.{arena_of}
 pub use Rattle.roman_joint.specs.Rows.{lanes_in}
 pub use Rattle.roman_lanes.proofs.CallerLemmas.{on_and, on_full, on_full_past, on_less, on_not, on_ones, on_ones_above, on_or, on_zero}
 pub use Rattle.roman_lanes.specs.Rows.{HasLanes, Keeps}
@@ -34,27 +35,27 @@ pub use Rattle.roman_model.specs.declared.reason.Reason.TheVariants.{Act, Final}
 pub use Rattle.roman_order.proofs.CallerLemmas.{in_lanes, lanes_once, no_lane, none_below, on_in, on_lowered, one_pow, set_lanes-joined, set_lanes-zero, some_lane}
 pub use Rattle.roman_order.specs.Board.{Board, as_entry, entries_in, has_entry, nodes_of, pairs_of}
 unfoldable pub use Rattle.roman_order.specs.Board.{set_lanes}
-pub use Rattle.roman_order.specs.Events.{IsEvent, entries_at}
-pub use Rattle.roman_order.specs.declared.event.Event.{Event}
+pub use Rattle.roman_order.specs.Batches.{IsBatch, entries_at}
+pub use Rattle.roman_order.specs.declared.batch.Batch.{Batch}
 pub use Rattle.roman_parts.specs.Named.{NamedBeh}
 pub use Rattle.roman_radix.proofs.CallerLemmas.{AreSizes-index, lanes_few, lanes_positive, row_below, row_div, row_mod, tails_from}
 pub use Rattle.roman_radix.specs.Radix.{AreSizes, IsSizes, stride_of}
 pub use Rattle.roman_radix.specs.Rows.{lanes_of, low_of}
 pub use Rattle.roman_relation.proofs.CallerLemmas.{listed_numbers, room_for_pairs, words_rows}
-pub use Rattle.roman_relation.specs.Greatest.{HasCaps, IsRelation, arena_of}
+pub use Rattle.roman_relation.specs.Greatest.{HasCaps, IsRelation}
 pub use Rattle.roman_relation.specs.Shaped.{IsShaped}
 pub use Rattle.roman_relation.specs.declared.relation.Relation.{Relation}
 pub use Rattle.roman_rules.proofs.CallerLemmas.{count_below_more, readings_of-allowed}
-pub use Rattle.roman_rules.specs.Asked.{IsReasonOf, readings_of_reason}
+pub use Rattle.roman_rules.specs.Probes.{IsReasonOf, readings_of_reason}
 pub use Rattle.roman_rules.specs.Numbered.{IsNumbered}
-pub use Rattle.roman_repair.specs.Alone.{AreKept, IsSeatOf, MayAskAlone, passes, questions_of, without_seat}
-pub use Rattle.roman_repair.specs.AskedBands.{HoldsInBand, IsKnown}
+pub use Rattle.roman_repair.specs.Alone.{AreKept, IsSeatOf, MayProbeAlone, passes, probes_of, without_seat}
+pub use Rattle.roman_repair.specs.BandProbes.{HoldsInBand, IsKnown}
 pub use Rattle.roman_repair.specs.Deaths.{AreInPart, IsPart, IsWithin, Renames, entries_from, list_with}
 pub use Rattle.roman_repair.specs.Growing.{CanGrow, CanReadmit, HasReplayedAll, IsGrown, entries_grown, list_grown, replay_grown}
-pub use Rattle.roman_repair.specs.Judging.{CanReplay, CanReplayEvent, GoesOnTo, HasJudged, HasJudgedFront, Replays}
+pub use Rattle.roman_repair.specs.Judging.{CanReplay, CanReplayBatch, GoesOnTo, HasJudged, HasJudgedFront, Replays}
 pub use Rattle.roman_repair.specs.Lanes.{HasFront, HasLanesBetween, IsCutAt, IsFirstPart, IsSpread}
 pub use Rattle.roman_repair.specs.Repairs.{IsBegun, IsRepaired, IsSettledOn}
 pub use Rattle.roman_repair.specs.Replays.{AreCandidates, AreSlices, candidates, is_possible, readings_of_entries, with_replay}
-pub use Rattle.roman_repair.specs.declared.asked_band.AskedBand.{AskedBand}
+pub use Rattle.roman_repair.specs.declared.band_probe.BandProbe.{BandProbe}
 pub use Rattle.roman_repair.specs.declared.replaying.Newcomer.{Newcomer}
 pub use Rattle.roman_repair.specs.declared.tally.Tally.{Tally}

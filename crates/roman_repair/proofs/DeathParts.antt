@@ -1,5 +1,5 @@
 -- The parts of rows that stay together when a service dies.
-use Rattle.roman_repair.proofs.Common.{in_sizes, on_below, on_shl, Behaves, behaves, seat_read, on_in, in_lanes, ◌≡◌, ℕ, zero, suc, ◌+◌, ◌-◌, ◌*◌, ◌/◌, ◌%◌, ◌^◌, ◌<◌, ◌≤◌, Bool, true, ◌&&◌, List, [], ◌∷◌, map, length, drop, filter, remove, slice_index, inl, inr, refl, sym, ap, ◌∙◌, subst, arith, bit_and, not, ◌||◌, IsTrue, IsFalse, slice_get, Some, mul-le-mul_left, cases_lt, div-add-mod', below, product_of, IsIn, Sizes, count, pair_at, sizes_of, number_without, is_on, on_and, AreSizes, low_of, lanes_of, row_mod, lanes_few, tails_from, row_div, row_below, lanes_positive, set_lanes, as_entry, IsPart, IsWithin, AreInPart, by_test, in_map, part_at, size_at, there_is, Sys, Seat, is_final, Event, lanes_in, IsFirstPart, NamedSys, system_of, IsNamedSys, seat_of, length-map, Die, CanChange, same_Some, NamedBeh, IsSeatBehaviour}
+use Rattle.roman_repair.proofs.Common.{in_sizes, on_below, on_shl, Behaves, behaves, seat_read, on_in, in_lanes, ◌≡◌, ℕ, zero, suc, ◌+◌, ◌-◌, ◌*◌, ◌/◌, ◌%◌, ◌^◌, ◌<◌, ◌≤◌, Bool, true, ◌&&◌, List, [], ◌∷◌, map, length, drop, filter, remove, slice_index, inl, inr, refl, sym, ap, ◌∙◌, subst, arith, bit_and, not, ◌||◌, IsTrue, IsFalse, slice_get, Some, mul-le-mul_left, cases_lt, div-add-mod', below, product_of, IsIn, Sizes, count, pair_at, sizes_of, number_without, is_on, on_and, AreSizes, low_of, lanes_of, row_mod, lanes_few, tails_from, row_div, row_below, lanes_positive, set_lanes, as_entry, IsPart, IsWithin, AreInPart, by_test, in_map, part_at, size_at, there_is, Sys, Seat, is_final, Batch, lanes_in, IsFirstPart, NamedSys, system_of, IsNamedSys, seat_of, length-map, Die, CanChange, same_Some, NamedBeh, IsSeatBehaviour}
 use Rattle.roman_repair.proofs.Joined.{positive, grown_within, whole_row, shorter_row, few_behind, part_of_more}
 use Rattle.roman_repair.proofs.Fronts.{some_in, moved_so_far, only_so_far}
 use Rattle.roman_joint.specs.declared.seat.Seat as joint
@@ -105,16 +105,16 @@ moved_lanes word alive place test few each =
     ∙ ap (map (λ i. place + i)) (sym (both_tests test (is_on word) (below (64 - place)))
     ∙ ap (filter test) (sym (ap (λ n. filter (is_on word) (below n)) ends ∙ only_so_far (is_on word) (64 - place) place (λ i l. by_test (is_on word (64 - place + i)) (λ on. absurd (let (h, s) = each (64 - place + i) (omega arith) on in omega (arith, h))) (λ off. off)))))
 
--- a pair of the event
-pair_in : (s : Sys) (e : Event) (lane : ℕ) → IsWithin s e → IsIn lane (set_lanes e.lanes) → e.row * lanes_in s + lane < count (sizes_of s)
+-- a pair of the batch
+pair_in : (s : Sys) (e : Batch) (lane : ℕ) → IsWithin s e → IsIn lane (set_lanes e.lanes) → e.row * lanes_in s + lane < count (sizes_of s)
 pair_in s e lane is i = is.nodes (as_entry (e.row * lanes_in s + lane, e.reason)) (in_map (λ lane. as_entry (e.row * lanes_in s + lane, e.reason)) lane (set_lanes e.lanes) i)
 
 -- its row
-pub row_in : (s : Sys) (e : Event) → IsWithin s e → e.row * lanes_in s < count (sizes_of s)
-row_in s e is = let (lane, i) = some_in (set_lanes e.lanes) is.event.some in omega (arith, pair_in s e lane is i)
+pub row_in : (s : Sys) (e : Batch) → IsWithin s e → e.row * lanes_in s < count (sizes_of s)
+row_in s e is = let (lane, i) = some_in (set_lanes e.lanes) is.batch.some in omega (arith, pair_in s e lane is i)
 
 -- the pairs of the first part of its remaining lanes
-pub part_in : (n : NamedSys) (shape : Sizes) (e : Event) (k first left w i part rest : ℕ) → IsWithin (system_of n) e → shape ≡ sizes_of (system_of n) → k < length n.seats → first ≡ e.row * lanes_in (system_of n) → IsPart shape.seats k w →
+pub part_in : (n : NamedSys) (shape : Sizes) (e : Batch) (k first left w i part rest : ℕ) → IsWithin (system_of n) e → shape ≡ sizes_of (system_of n) → k < length n.seats → first ≡ e.row * lanes_in (system_of n) → IsPart shape.seats k w →
     ((lane : ℕ) → is_on left lane ≡ true → is_on e.lanes lane ≡ true) → IsFirstPart left w i part rest → AreInPart (sizes_of (system_of n)) k (first + i * w) part
 part_in n shape e k first left w i part rest is same there row wide within begins =
     let parts = subst (λ (m : Sizes). IsPart m.seats k w) same wide in
@@ -134,4 +134,4 @@ part_in n shape e k first left w i part rest is same there row wide within begin
     pair : (lane : ℕ) → is_on part lane ≡ true → e.row * lanes_in s + (i * w + lane) < count (sizes_of s)
     pair lane on =
         let there = within (i * w + lane) (begins.in_part lane on).1 in
-        pair_in s e (i * w + lane) is (on_in e.lanes (i * w + lane) (omega (arith, is.event.within (i * w + lane) there, lanes_few (sizes_of s).seats)) there)
+        pair_in s e (i * w + lane) is (on_in e.lanes (i * w + lane) (omega (arith, is.batch.within (i * w + lane) there, lanes_few (sizes_of s).seats)) there)

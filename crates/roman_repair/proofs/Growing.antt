@@ -1,5 +1,5 @@
 -- The replay of a row's entries that stand for several pairs each, part by part.
-use Rattle.roman_repair.proofs.Common.{not-not, or-false, Bool, ◌≡◌, ℕ, zero, suc, ◌+◌, ◌-◌, ◌*◌, ◌/◌, ◌%◌, ◌<◌, ◌≤◌, true, false, ◌||◌, append-nil, List, [], ◌∷◌, ◌++◌, map, flat_map, filter, cond, sym, ap, ap₂, ◌∙◌, subst, arith, append_assoc, bit_or, not, ◌^◌, inl, inr, length, cases_lt, cases_eq, both_ways, filter_below_more, in_append_left, in_below, in_map, in_flat_map, from_below, bit_not, w64, on_not, on_or, mul-le-mul_left, below, IsIn, Arena, Entry, grown_numbers, Reason, is_on, as_entry, set_lanes, entries_in, Board, Event, entries_at, IsEvent, AreSlices, candidates, with_replay, CanReplay, CanReplayEvent, GoesOnTo, Replays, flat_map-append, div-mul-add, CanGrow, HasReplayedAll, IsGrown, entries_grown, HasLanesBetween, IsFirstPart, IsSpread, AskedBand, Newcomer}
+use Rattle.roman_repair.proofs.Common.{not-not, or-false, Bool, ◌≡◌, ℕ, zero, suc, ◌+◌, ◌-◌, ◌*◌, ◌/◌, ◌%◌, ◌<◌, ◌≤◌, true, false, ◌||◌, append-nil, List, [], ◌∷◌, ◌++◌, map, flat_map, filter, cond, sym, ap, ap₂, ◌∙◌, subst, arith, append_assoc, bit_or, not, ◌^◌, inl, inr, length, cases_lt, cases_eq, both_ways, filter_below_more, in_append_left, in_below, in_map, in_flat_map, from_below, bit_not, w64, on_not, on_or, mul-le-mul_left, below, IsIn, Arena, Entry, grown_numbers, Reason, is_on, as_entry, set_lanes, entries_in, Board, Batch, entries_at, IsBatch, AreSlices, candidates, with_replay, CanReplay, CanReplayBatch, GoesOnTo, Replays, flat_map-append, div-mul-add, CanGrow, HasReplayedAll, IsGrown, entries_grown, HasLanesBetween, IsFirstPart, IsSpread, BandProbe, Newcomer}
 use Rattle.roman_repair.proofs.Waiting.{grown_by_one}
 use Rattle.roman_repair.proofs.Joined.{positive, grown_part}
 use Rattle.roman_repair.proofs.Replayed.{replayed_on}
@@ -26,11 +26,11 @@ spread_list word spread lanes width few is =
         grind (arith, filter_below_more, filter_split, flat_map-append, (ap (λ n. filter (is_on spread) (below n)) next), (blocks m (λ lane i l h. each lane i (omega (arith, l)) h)), (block m (is_on word m) (λ i h. each m i (omega arith) h)))
 
 -- the first lane that isn't the word's ends a run of lanes that are
-pub run_lanes : (word lane end : ℕ) → word < 2 ^ 64 → end ≤ 64 → ((l : ℕ) → lane ≤ l → l < end → is_on (bit_not w64 word) l ≡ false) → (l : ℕ) → lane ≤ l → l < end → is_on word l ≡ true
-run_lanes word lane end fits few off l past less = sym (not-not (is_on word l)) ∙ ap not (sym (on_not word l fits (omega (arith, less, few))) ∙ off l past less)
+pub stretch_lanes : (word lane end : ℕ) → word < 2 ^ 64 → end ≤ 64 → ((l : ℕ) → lane ≤ l → l < end → is_on (bit_not w64 word) l ≡ false) → (l : ℕ) → lane ≤ l → l < end → is_on word l ≡ true
+stretch_lanes word lane end fits few off l past less = sym (not-not (is_on word l)) ∙ ap not (sym (on_not word l fits (omega (arith, less, few))) ∙ off l past less)
 
-pub run_some : (word lane end lanes : ℕ) → word < 2 ^ 64 → lanes ≤ 64 → lane < lanes → lane ≤ end → is_on word lane ≡ true → (end < lanes → is_on (bit_not w64 word) end ≡ true) → lane < end
-run_some word lane end lanes fits few less past here next = grind (arith, both_ways, cases_eq, (on_not word lane fits), next)
+pub stretch_some : (word lane end lanes : ℕ) → word < 2 ^ 64 → lanes ≤ 64 → lane < lanes → lane ≤ end → is_on word lane ≡ true → (end < lanes → is_on (bit_not w64 word) end ≡ true) → lane < end
+stretch_some word lane end lanes fits few less past here next = grind (arith, both_ways, cases_eq, (on_not word lane fits), next)
 
 -- a run of lanes is spread, and the lanes after it that the word doesn't have
 pub spread_more : (word spread block lane end next width : ℕ) → IsSpread word spread lane width → HasLanesBetween block (lane * width) (end * width) → lane ≤ end → end ≤ next → ((l : ℕ) → lane ≤ l → l < end → is_on word l ≡ true) → ((l : ℕ) → end ≤ l → l < next → is_on word l ≡ false) →
@@ -72,7 +72,7 @@ pub same_slices : (row lanes : ℕ) → row ≡ lanes → lanes ≤ 64 → AreSl
 same_slices row lanes same few = record { few = few; slices = (row, omega arith, 1, omega arith) }
 
 -- entries that stand for their own pairs
-pub grown_itself : (states lanes n : ℕ) (e : Event) → states ≡ 1 → lanes ≡ n → entries_at n e ≡ flat_map (grown_numbers states) (entries_at lanes e)
+pub grown_itself : (states lanes n : ℕ) (e : Batch) → states ≡ 1 → lanes ≡ n → entries_at n e ≡ flat_map (grown_numbers states) (entries_at lanes e)
 grown_itself states lanes n e one same = sym (ap (λ s. flat_map (grown_numbers s) (entries_at lanes e)) one ∙ grown_by_one (entries_at lanes e) ∙ ap (λ m. entries_at m e) same)
 
 -- what the entries of the first part and of the others stand for
@@ -110,46 +110,46 @@ grown_row nodes n lanes states slices many x word i part rest reason is first wi
     let whole : (x * many + i) * 1 ≤ (x * many + i) * n = mul-le-mul_left (x * many + i) wide in
     omega (arith, node, row, less, whole)
 
--- ---- the events of grown rows
+-- ---- the batches of grown rows
 
--- where each entry stands for its own pair, the event stays as it is
-pub stays_event : (A : Arena ℕ) (n : ℕ) (newcomer : Newcomer) (order : Board) (asked : AskedBand) (e : Event) → newcomer.states ≡ 1 → newcomer.lanes ≡ n → CanReplayEvent A n newcomer.lanes (entries_grown newcomer) order asked e → CanReplayEvent A n n (entries_at n) order asked e
-stays_event A n newcomer order asked e one same can = record {
+-- where each entry stands for its own pair, the batch stays as it is
+pub stays_batch : (A : Arena ℕ) (n : ℕ) (newcomer : Newcomer) (order : Board) (probe : BandProbe) (e : Batch) → newcomer.states ≡ 1 → newcomer.lanes ≡ n → CanReplayBatch A n newcomer.lanes (entries_grown newcomer) order probe e → CanReplayBatch A n n (entries_at n) order probe e
+stays_batch A n newcomer order probe e one same can = record {
   shaped = can.shaped;
-  event = subst (λ m. IsEvent m e) same can.event;
-  ready = (let (N, ready) = can.ready in (N, subst (λ L. CanReplay A n order.list asked (L ++ N)) (sym (grown_itself newcomer.states newcomer.lanes n e one same)) ready));
+  batch = subst (λ m. IsBatch m e) same can.batch;
+  ready = (let (N, ready) = can.ready in (N, subst (λ L. CanReplay A n order.list probe (L ++ N)) (sym (grown_itself newcomer.states newcomer.lanes n e one same)) ready));
 }
 
--- what an event stands for can be grown
-pub can_grow : (A : Arena ℕ) (n : ℕ) (newcomer : Newcomer) (order : Board) (asked : AskedBand) (e : Event) → AreSlices n newcomer.lanes newcomer.states → CanReplayEvent A n newcomer.lanes (entries_grown newcomer) order asked e → CanGrow A n newcomer e
-can_grow A n newcomer order asked e slices can = record { slices = slices; event = can.event; nodes = λ x i. (let (N, ready) = can.ready in ready.candidates.nodes x (in_append_left x (entries_grown newcomer e) N i)) }
+-- what a batch stands for can be grown
+pub can_grow : (A : Arena ℕ) (n : ℕ) (newcomer : Newcomer) (order : Board) (probe : BandProbe) (e : Batch) → AreSlices n newcomer.lanes newcomer.states → CanReplayBatch A n newcomer.lanes (entries_grown newcomer) order probe e → CanGrow A n newcomer e
+can_grow A n newcomer order probe e slices can = record { slices = slices; batch = can.batch; nodes = λ x i. (let (N, ready) = can.ready in ready.candidates.nodes x (in_append_left x (entries_grown newcomer e) N i)) }
 
 -- the first row can be replayed
-pub grown_ready : (A : Arena ℕ) (n : ℕ) (newcomer : Newcomer) (order : Board) (asked : AskedBand) (e grown : Event) (rest : ℕ) → CanReplayEvent A n newcomer.lanes (entries_grown newcomer) order asked e → IsGrown n newcomer e grown rest → CanReplayEvent A n n (entries_at n) order asked grown
-grown_ready A n newcomer order asked e grown rest can is = record {
+pub grown_ready : (A : Arena ℕ) (n : ℕ) (newcomer : Newcomer) (order : Board) (probe : BandProbe) (e grown : Batch) (rest : ℕ) → CanReplayBatch A n newcomer.lanes (entries_grown newcomer) order probe e → IsGrown n newcomer e grown rest → CanReplayBatch A n n (entries_at n) order probe grown
+grown_ready A n newcomer order probe e grown rest can is = record {
   shaped = can.shaped;
-  event = is.event;
+  batch = is.batch;
   ready = (
       let (N, ready) = can.ready in
       let left = entries_grown newcomer (record e { lanes = rest }) in
-      (left ++ N, subst (CanReplay A n order.list asked) (ap (λ L. L ++ N) is.parts ∙ append_assoc (entries_at n grown) left N) ready));
+      (left ++ N, subst (CanReplay A n order.list probe) (ap (λ L. L ++ N) is.parts ∙ append_assoc (entries_at n grown) left N) ready));
 }
 
--- ---- the waiting entries, event by event
+-- ---- the waiting entries, batch by batch
 
--- the next event goes first, and the others after it
-waiting_first : (newcomer : Newcomer) (now next : Board) (e : Event) → now.waiting_lanes ≡ newcomer.lanes → now.waiting ≡ entries_at now.waiting_lanes e ++ next.waiting → candidates newcomer.states now ≡ entries_grown newcomer e ++ candidates newcomer.states next
+-- the next batch goes first, and the others after it
+waiting_first : (newcomer : Newcomer) (now next : Board) (e : Batch) → now.waiting_lanes ≡ newcomer.lanes → now.waiting ≡ entries_at now.waiting_lanes e ++ next.waiting → candidates newcomer.states now ≡ entries_grown newcomer e ++ candidates newcomer.states next
 waiting_first newcomer now next e same first =
     ap (flat_map (grown_numbers newcomer.states)) (first ∙ ap (λ m. entries_at m e ++ next.waiting) same) ∙ flat_map-append (grown_numbers newcomer.states) (entries_at newcomer.lanes e) next.waiting
 
 -- it can be replayed
-pub next_ready : (A : Arena ℕ) (n : ℕ) (newcomer : Newcomer) (now next : Board) (on : AskedBand) (e : Event) → now.waiting_lanes ≡ newcomer.lanes → now.waiting ≡ entries_at now.waiting_lanes e ++ next.waiting → next ≡ record now { waiting = next.waiting } →
+pub next_ready : (A : Arena ℕ) (n : ℕ) (newcomer : Newcomer) (now next : Board) (on : BandProbe) (e : Batch) → now.waiting_lanes ≡ newcomer.lanes → now.waiting ≡ entries_at now.waiting_lanes e ++ next.waiting → next ≡ record now { waiting = next.waiting } →
     CanReplay A n now.list on (candidates newcomer.states now) → CanReplay A n next.list on (entries_grown newcomer e ++ candidates newcomer.states next)
 next_ready A n newcomer now next on e same first rest can =
     subst (λ K. CanReplay A n K on (entries_grown newcomer e ++ candidates newcomer.states next)) (sym (ap (λ (b : Board). b.list) rest)) (subst (CanReplay A n now.list on) (waiting_first newcomer now next e same first) can)
 
 -- what it stands for was replayed too
-pub replay_on : (A : Arena ℕ) (n : ℕ) (newcomer : Newcomer) (start now next new : Board) (on last : AskedBand) (e : Event) (before between after : ℕ) → now.waiting_lanes ≡ newcomer.lanes → now.waiting ≡ entries_at now.waiting_lanes e ++ next.waiting → next ≡ record now { waiting = next.waiting } →
+pub replay_on : (A : Arena ℕ) (n : ℕ) (newcomer : Newcomer) (start now next new : Board) (on last : BandProbe) (e : Batch) (before between after : ℕ) → now.waiting_lanes ≡ newcomer.lanes → now.waiting ≡ entries_at now.waiting_lanes e ++ next.waiting → next ≡ record now { waiting = next.waiting } →
     Replays A n (entries_grown newcomer e) [] next.list new.list on last between after → new ≡ record next { list = new.list } → GoesOnTo A n (candidates newcomer.states start) (candidates newcomer.states now) start.list now.list on before between →
     GoesOnTo A n (candidates newcomer.states start) (candidates newcomer.states new) start.list new.list last before after
 replay_on A n newcomer start now next new on last e before between after same first rest replayed kept goes =
@@ -157,7 +157,7 @@ replay_on A n newcomer start now next new on last e before between after same fi
     replayed_on _ _ _ _ _ _ _ _ _ _ _ _ _ _ goes those (subst (λ K. Replays A n (entries_grown newcomer e) [] K new.list on last between after) (ap (λ (b : Board). b.list) rest) replayed)
 
 -- at the end all were
-pub replayed_all : (A : Arena ℕ) (n : ℕ) (newcomer : Newcomer) (start now last : Board) (on : AskedBand) (before after : ℕ) → GoesOnTo A n (candidates newcomer.states start) (candidates newcomer.states now) start.list now.list on before after → now ≡ record start { list = now.list; waiting = now.waiting } →
+pub replayed_all : (A : Arena ℕ) (n : ℕ) (newcomer : Newcomer) (start now last : Board) (on : BandProbe) (before after : ℕ) → GoesOnTo A n (candidates newcomer.states start) (candidates newcomer.states now) start.list now.list on before after → now ≡ record start { list = now.list; waiting = now.waiting } →
     (now.waiting ≡ []) × (last ≡ now) → HasReplayedAll A (candidates newcomer.states start) start last before after
 replayed_all A n newcomer start now last on before after goes rest (none, same) =
     let all : candidates newcomer.states now ≡ [] = ap (flat_map (grown_numbers newcomer.states)) none in

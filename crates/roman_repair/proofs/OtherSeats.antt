@@ -1,5 +1,5 @@
 -- After a thaw or a join each entry of the old list would be kept if the changed seat had no outcomes.
-use Rattle.roman_repair.proofs.Common.{get_front, map_same_in, complete_order, turned, sizes-turned, in_map, from_map, AreNumbers, in_below, justified_more, listed_append, map-map, all_below_from, any_from, any_true, by_test, from_below, justified_is, number_allows-turned, pair_at-grown, sizes-joined, IsPairOf-from, is_fine-turned, length-set_frozen, length-states_at, number-grown, numbers_are_pairs, outcome_pair, moved_named, outcomes-turned, ◌≡◌, ℕ, zero, suc, ◌+◌, ◌*◌, ◌%◌, ◌<◌, ◌==◌, Bool, true, false, not, ◌&&◌, ◌||◌, List, [], ◌∷◌, ◌++◌, map, flat_map, length, Some, IsTrue, IsFalse, if◌then◌else◌, slice_get, slice_index, inl, inr, refl, sym, ap, ◌∙◌, subst, arith, append-nil, append_assoc, both_ways, eqb-true, or_left, and_from, and_parts, eq-eqb, or_cases, or_right, IsIn, below, product_of, all_below, is_empty, Arena, Entry, is_listed, is_justified, is_among, IsOrderFrom, IsOrder, replay, Reason, Final, Act, length-map, length_push, get_or_append_left, set-append_left, Sys, Seat, IsSys, is_final, Pair, all_final, Sizes, sizes_of, count, pair_at, numbered, number, grown_numbers, NamedSys, system_of, IsNamedSys, seat_of, Board, pairs_of, has_entry, IsRelation, listed_numbers, list_any, is_ready, is_fine, outcomes, outcomes_by, seat_next, without_seat, MayAskAlone, AreKept, grown, set_frozen, Join, after, Thaw, AreSizes, lanes_of, lanes_few, lanes_in, AreCandidates, Newcomer}
+use Rattle.roman_repair.proofs.Common.{get_front, map_same_in, complete_order, turned, sizes-turned, in_map, from_map, AreNumbers, in_below, justified_more, listed_append, map-map, all_below_from, any_from, any_true, by_test, from_below, justified_is, number_allows-turned, pair_at-grown, sizes-joined, IsPairOf-from, is_fine-turned, length-set_frozen, length-states_at, number-grown, numbers_are_pairs, outcome_pair, moved_named, outcomes-turned, ◌≡◌, ℕ, zero, suc, ◌+◌, ◌*◌, ◌%◌, ◌<◌, ◌==◌, Bool, true, false, not, ◌&&◌, ◌||◌, List, [], ◌∷◌, ◌++◌, map, flat_map, length, Some, IsTrue, IsFalse, if◌then◌else◌, slice_get, slice_index, inl, inr, refl, sym, ap, ◌∙◌, subst, arith, append-nil, append_assoc, both_ways, eqb-true, or_left, and_from, and_parts, eq-eqb, or_cases, or_right, IsIn, below, product_of, all_below, is_empty, Arena, Entry, is_listed, is_justified, is_among, IsOrderFrom, IsOrder, replay, Reason, Final, Act, length-map, length_push, get_or_append_left, set-append_left, Sys, Seat, IsSys, is_final, Pair, all_final, Sizes, sizes_of, count, pair_at, numbered, number, grown_numbers, NamedSys, system_of, IsNamedSys, seat_of, Board, pairs_of, has_entry, IsRelation, listed_numbers, list_any, is_ready, is_fine, outcomes, outcomes_by, seat_next, without_seat, MayProbeAlone, AreKept, grown, set_frozen, Join, after, Thaw, AreSizes, lanes_of, lanes_few, lanes_in, AreCandidates, Newcomer}
 use Rattle.roman_repair.proofs.Joined.{possible-joined, joined_can, joined_candidates, joined_lanes}
 use Rattle.roman_repair.proofs.Repairing.{relation_replays}
 use Rattle.roman_repair.proofs.Waiting.{IsReadmission, grown_by_one, relation_candidates, turned_candidates}
@@ -42,8 +42,7 @@ carried_justified s t k m over p b l h gone lost carry (Act a) j =
     let B = without_seat (numbered t) k in
     let blank : ℕ → Bool → Bool = λ i none. is_empty (if none then [] else (numbered t).outcomes (p * m + b) a i) || list_any lost (if none then [] else (numbered t).outcomes (p * m + b) a i) in
     and_from (B.allows (p * m + b) a) (all_below (λ i. blank i (i == k)) B.seats) (over.allows p b a l h allowed)
-    (all_below_from (λ i. blank i (i == k)) B.seats (λ i inner. by_test (i == k) (λ same. grind (arith, same))
-    (λ other.
+    (all_below_from (λ i. blank i (i == k)) B.seats (λ i inner. by_test (i == k) (λ same. grind (arith, same)) (λ other.
     let ne : i ≡ k → ⊥ = λ e. both_ways (i == k) other (eq-eqb i k e) in
     grind (arith, other, (over.outcomes p b a i l h inner ne), (beaten_map (λ q. q * m + b) gone lost ((numbered s).outcomes p a i) carry (each i (over.seat i inner ne)))))))
 
@@ -155,7 +154,7 @@ join_carries s seat ok = record {
     still_unfine final all true fewer f = grind (arith, (fewer refl))
     still_unfine final all false fewer f = grind arith
 
--- ---- the changed seat may be asked alone
+-- ---- the changed seat may be probed alone
 
 thawed_ready : (seats : List Seat) (k : ℕ) → k < length seats → IsTrue (is_ready (slice_get (set_frozen seats k false) k))
 thawed_ready [] k l = absurd (omega arith)
@@ -167,13 +166,13 @@ last_ready [] seat thawed = ap not thawed
 last_ready (x ∷ seats) seat thawed = last_ready seats seat thawed
 
 pub thaw_alone : (joint : NamedSys) (old : Board) (k : ℕ) → IsNamedSys joint → IsRelation joint old → ((p : ℕ) → has_entry old.list p ≡ true → p < pairs_of old) → k < length (system_of joint).seats →
-    MayAskAlone (numbered (turned (system_of joint) k false)) (Some k) [] (flat_map (grown_numbers 1) old.list)
+    MayProbeAlone (numbered (turned (system_of joint) k false)) (Some k) [] (flat_map (grown_numbers 1) old.list)
 thaw_alone joint old k known relation in_range l =
     let s = system_of joint in
     (subst (λ n. k < n) (sym (length-set_frozen s.seats k false)) l, thawed_ready s.seats k l, relation_kept joint old (turned s k false) k 1 known relation in_range (thaw_carries s k))
 
 pub join_alone : (joint : NamedSys) (old : Board) (seat : Seat) → IsNamedSys joint → IsRelation joint old → ((p : ℕ) → has_entry old.list p ≡ true → p < pairs_of old) → IsFalse seat.frozen →
-    MayAskAlone (numbered (with_last (system_of joint) seat)) (Some (length (system_of joint).seats)) [] (flat_map (grown_numbers seat.beh.states) old.list)
+    MayProbeAlone (numbered (with_last (system_of joint) seat)) (Some (length (system_of joint).seats)) [] (flat_map (grown_numbers seat.beh.states) old.list)
 join_alone joint old seat known relation in_range thawed =
     let s = system_of joint in
     let more : length (s.seats ++ seat ∷ []) ≡ length s.seats + 1 = length_push s.seats seat in

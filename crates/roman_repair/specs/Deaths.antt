@@ -13,8 +13,8 @@ use Rattle.roman_lanes.specs.Rows.{is_on}
 use Rattle.roman_joint.specs.NamedSys.{NamedSys, system_of}
 use Rattle.roman_joint.specs.Rows.{lanes_in}
 use Rattle.roman_order.specs.Board.{Board, as_entry, pairs_of, nodes_of, set_lanes, entries_in, has_entry}
-use Rattle.roman_order.specs.Events.{IsEvent, entries_at}
-use Rattle.roman_order.specs.declared.event.Event.{Event}
+use Rattle.roman_order.specs.Batches.{IsBatch, entries_at}
+use Rattle.roman_order.specs.declared.batch.Batch.{Batch}
 use Rattle.roman_repair.specs.declared.dying.renaming.Leaver.{Leaver}
 
 -- the renamed entries, of those in which seat k may leave its state behind
@@ -41,9 +41,9 @@ pub record CanRename (joint : NamedSys) (leaver : Leaver) (order : Board) : Type
   pub shaped : pairs_of order ≡ count (sizes_without leaver.k (sizes_of (system_of joint)))
   pub lanes : (leaver.lanes ≡ order.lanes) × (order.lanes ≡ lanes_of (sizes_without leaver.k (sizes_of (system_of joint))).seats)
 
--- the entries of the event are in the system
-pub record IsWithin (s : Sys) (e : Event) : Type 0 where
-  pub event : IsEvent (lanes_in s) e
+-- the entries of the batch are in the system
+pub record IsWithin (s : Sys) (e : Batch) : Type 0 where
+  pub batch : IsBatch (lanes_in s) e
   pub nodes : (x : Entry ℕ) → IsIn x (entries_at (lanes_in s) e) → x.node < count (sizes_of s)
 
 -- the pairs `first + i`, where i is a bit of the word, are pairs of one part

@@ -7,40 +7,40 @@ use Rattle.roman_model.specs.Numbers.{numbered}
 use Rattle.roman_model.specs.Arena.{Arena, Entry, IsOrder, replay}
 use Rattle.roman_model.specs.NumberedChange.{grown_numbers}
 use Rattle.roman_order.specs.Board.{Board, set_lanes}
-use Rattle.roman_order.specs.Events.{IsEvent, entries_at}
-use Rattle.roman_order.specs.declared.event.Event.{Event}
+use Rattle.roman_order.specs.Batches.{IsBatch, entries_at}
+use Rattle.roman_order.specs.declared.batch.Batch.{Batch}
 use Rattle.roman_joint.specs.Rows.{lanes_in}
 use Rattle.roman_relation.specs.Shaped.{IsShaped}
-use Rattle.roman_repair.specs.Alone.{MayAskAlone}
+use Rattle.roman_repair.specs.Alone.{MayProbeAlone}
 use Rattle.roman_repair.specs.Replays.{AreCandidates, AreSlices, candidates, readings_of_entries, with_replay}
-use Rattle.roman_repair.specs.declared.asked_band.AskedBand.{AskedBand}
+use Rattle.roman_repair.specs.declared.band_probe.BandProbe.{BandProbe}
 use Rattle.roman_repair.specs.declared.replaying.Newcomer.{Newcomer}
 
--- what the entries of an event from before the newcomer grow to
-abbrev pub entries_grown : Newcomer → Event → List (Entry ℕ)
+-- what the entries of a batch from before the newcomer grow to
+abbrev pub entries_grown : Newcomer → Batch → List (Entry ℕ)
 entries_grown newcomer e = flat_map (grown_numbers newcomer.states) (entries_at newcomer.lanes e)
 
--- the entries of an event from before the newcomer grow to entries of whole rows of `row` lanes, and of nodes of the arena
-pub record CanGrow (A : Arena ℕ) (row : ℕ) (newcomer : Newcomer) (e : Event) : Type 0 where
+-- the entries of a batch from before the newcomer grow to entries of whole rows of `row` lanes, and of nodes of the arena
+pub record CanGrow (A : Arena ℕ) (row : ℕ) (newcomer : Newcomer) (e : Batch) : Type 0 where
   pub slices : AreSlices row newcomer.lanes newcomer.states
-  pub event : IsEvent newcomer.lanes e
+  pub batch : IsBatch newcomer.lanes e
   pub nodes : (x : Entry ℕ) → IsIn x (entries_grown newcomer e) → x.node < length A.nodes
 
--- what the first entries of an event grow to are the entries of another event, and the entries for the lanes `rest` are left
-pub record IsGrown (row : ℕ) (newcomer : Newcomer) (e grown : Event) (rest : ℕ) : Type 0 where
-  pub event : IsEvent row grown
+-- what the first entries of a batch grow to are the entries of another batch, and the entries for the lanes `rest` are left
+pub record IsGrown (row : ℕ) (newcomer : Newcomer) (e grown : Batch) (rest : ℕ) : Type 0 where
+  pub batch : IsBatch row grown
   pub parts : entries_grown newcomer e ≡ entries_at row grown ++ entries_grown newcomer (record e { lanes = rest })
   pub in_rest : (lane : ℕ) → is_on rest lane ≡ true → is_on e.lanes lane ≡ true
   pub fits : rest < 2 ^ 64
   pub fewer : length (set_lanes rest) < length (set_lanes e.lanes)
 
--- what the waiting entries from before the newcomer stand for can be replayed, and the newcomer may be asked alone
+-- what the waiting entries from before the newcomer stand for can be replayed, and the newcomer may be probed alone
 pub record CanReplayAll (A : Arena ℕ) (row : ℕ) (newcomer : Newcomer) (order : Board) : Type 0 where
   pub shaped : IsShaped A row order
   pub slices : AreSlices row newcomer.lanes newcomer.states
   pub lanes : order.waiting_lanes ≡ newcomer.lanes
   pub are : AreCandidates A order.list (candidates newcomer.states order)
-  pub may : MayAskAlone A (Some newcomer.k) order.list (candidates newcomer.states order)
+  pub may : MayProbeAlone A (Some newcomer.k) order.list (candidates newcomer.states order)
 
 -- all waiting entries were replayed, each as the entries that it stands for
 pub record HasReplayedAll (A : Arena ℕ) (L : List (Entry ℕ)) (old new : Board) (before after : ℕ) : Type 0 where
@@ -56,11 +56,11 @@ list_grown newcomer order = flat_map (grown_numbers newcomer.states) order.list
 abbrev pub replay_grown : Sys → Newcomer → Board → List (Entry ℕ)
 replay_grown s newcomer order = replay (numbered s) (list_grown newcomer order)
 
--- what the list grows to can be replayed in the system, and its replay is a removal list there; the newcomer may be asked alone
+-- what the list grows to can be replayed in the system, and its replay is a removal list there; the newcomer may be probed alone
 pub record CanReadmit (s : Sys) (newcomer : Newcomer) (order : Board) : Type 0 where
   pub idle : order.waiting ≡ []
   pub lanes : order.lanes ≡ newcomer.lanes
   pub slices : AreSlices (lanes_in s) newcomer.lanes newcomer.states
   pub are : AreCandidates (numbered s) [] (list_grown newcomer order)
-  pub may : MayAskAlone (numbered s) (Some newcomer.k) [] (list_grown newcomer order)
+  pub may : MayProbeAlone (numbered s) (Some newcomer.k) [] (list_grown newcomer order)
   pub valid : IsOrder (numbered s) (replay_grown s newcomer order)

@@ -3,44 +3,44 @@ use Rattle.std.specs.Prelude.{◌≡◌, ◌≢◌, ℕ, ◌+◌, ◌<◌, ◌�
 use Rattle.roman_lanes.specs.Rows.{is_on}
 use Rattle.roman_model.specs.Arena.{Arena, Entry, is_listed}
 use Rattle.roman_order.specs.Board.{Board, set_lanes}
-use Rattle.roman_order.specs.Events.{IsEvent, entries_at}
-use Rattle.roman_order.specs.declared.event.Event.{Event}
+use Rattle.roman_order.specs.Batches.{IsBatch, entries_at}
+use Rattle.roman_order.specs.declared.batch.Batch.{Batch}
 use Rattle.roman_relation.specs.Shaped.{IsShaped}
-use Rattle.roman_repair.specs.Alone.{MayAskAlone}
-use Rattle.roman_repair.specs.AskedBands.{HoldsInBand}
+use Rattle.roman_repair.specs.Alone.{MayProbeAlone}
+use Rattle.roman_repair.specs.BandProbes.{HoldsInBand}
 use Rattle.roman_repair.specs.Replays.{AreCandidates, with_replay, readings_of_entries}
-use Rattle.roman_repair.specs.declared.asked_band.AskedBand.{AskedBand}
+use Rattle.roman_repair.specs.declared.band_probe.BandProbe.{BandProbe}
 
 -- the entries can be replayed after those of a list
-pub record CanReplay (A : Arena ℕ) (lanes : ℕ) (kept : List (Entry ℕ)) (asked : AskedBand) (L : List (Entry ℕ)) : Type 0 where
+pub record CanReplay (A : Arena ℕ) (lanes : ℕ) (kept : List (Entry ℕ)) (probe : BandProbe) (L : List (Entry ℕ)) : Type 0 where
   pub candidates : AreCandidates A kept L
-  pub may : MayAskAlone A asked.alone kept L
-  pub known : HoldsInBand A lanes (is_listed A kept) asked
+  pub may : MayProbeAlone A probe.alone kept L
+  pub known : HoldsInBand A lanes (is_listed A kept) probe
 
 -- a replay of L after the list `kept` has gone on to one of M after the list `now`: it comes to the same end, and the readings that are left pay for its steps
-pub record GoesOnTo (A : Arena ℕ) (lanes : ℕ) (L M kept now : List (Entry ℕ)) (on : AskedBand) (before after : ℕ) : Type 0 where
+pub record GoesOnTo (A : Arena ℕ) (lanes : ℕ) (L M kept now : List (Entry ℕ)) (on : BandProbe) (before after : ℕ) : Type 0 where
   pub list : with_replay A now M ≡ with_replay A kept L
   pub can : CanReplay A lanes now on M
   pub cost : after + readings_of_entries A M ≤ before + readings_of_entries A L
 
 -- a replay of L, and of whatever comes next, goes on to one of M
-pub record Replays (A : Arena ℕ) (lanes : ℕ) (L M kept now : List (Entry ℕ)) (asked on : AskedBand) (before after : ℕ) : Type 0 where
-  pub goes_on : (N : List (Entry ℕ)) → CanReplay A lanes kept asked (L ++ N) → GoesOnTo A lanes (L ++ N) (M ++ N) kept now on before after
+pub record Replays (A : Arena ℕ) (lanes : ℕ) (L M kept now : List (Entry ℕ)) (probe on : BandProbe) (before after : ℕ) : Type 0 where
+  pub goes_on : (N : List (Entry ℕ)) → CanReplay A lanes kept probe (L ++ N) → GoesOnTo A lanes (L ++ N) (M ++ N) kept now on before after
 
--- what an event stands for can be replayed, and other entries after it; its lanes are lanes of a row
-pub record CanReplayEvent (A : Arena ℕ) (row lanes : ℕ) (entries : Event → List (Entry ℕ)) (order : Board) (asked : AskedBand) (e : Event) : Type 0 where
+-- what a batch stands for can be replayed, and other entries after it; its lanes are lanes of a row
+pub record CanReplayBatch (A : Arena ℕ) (row lanes : ℕ) (entries : Batch → List (Entry ℕ)) (order : Board) (probe : BandProbe) (e : Batch) : Type 0 where
   pub shaped : IsShaped A row order
-  pub event : IsEvent lanes e
-  pub ready : (N : List (Entry ℕ)) × CanReplay A row order.list asked (entries e ++ N)
+  pub batch : IsBatch lanes e
+  pub ready : (N : List (Entry ℕ)) × CanReplay A row order.list probe (entries e ++ N)
 
--- what an event stands for was replayed, up to its lanes `left`
-pub record HasJudged (A : Arena ℕ) (row : ℕ) (entries : Event → List (Entry ℕ)) (e : Event) (left : ℕ) (old new : Board) (asked on : AskedBand) (before after : ℕ) : Type 0 where
+-- what a batch stands for was replayed, up to its lanes `left`
+pub record HasJudged (A : Arena ℕ) (row : ℕ) (entries : Batch → List (Entry ℕ)) (e : Batch) (left : ℕ) (old new : Board) (probe on : BandProbe) (before after : ℕ) : Type 0 where
   pub some : left ≢ 0 → 0 < length (set_lanes left)
   pub within : (lane : ℕ) → is_on left lane ≡ true → is_on e.lanes lane ≡ true
-  pub replayed : Replays A row (entries e) (entries (record e { lanes = left })) old.list new.list asked on before after
+  pub replayed : Replays A row (entries e) (entries (record e { lanes = left })) old.list new.list probe on before after
   pub rest : new ≡ record old { list = new.list }
 
--- the first entries of an event were judged: its lanes `left`, of which there are fewer, are to be judged
-pub record HasJudgedFront (A : Arena ℕ) (row : ℕ) (e : Event) (left : ℕ) (old new : Board) (asked on : AskedBand) (before after : ℕ) : Type 0 where
+-- the first entries of a batch were judged: its lanes `left`, of which there are fewer, are to be judged
+pub record HasJudgedFront (A : Arena ℕ) (row : ℕ) (e : Batch) (left : ℕ) (old new : Board) (probe on : BandProbe) (before after : ℕ) : Type 0 where
   pub fewer : length (set_lanes left) < length (set_lanes e.lanes)
-  pub judged : HasJudged A row (entries_at row) e left old new asked on before after
+  pub judged : HasJudged A row (entries_at row) e left old new probe on before after

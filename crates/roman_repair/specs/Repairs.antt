@@ -4,13 +4,15 @@ use Rattle.roman_model.specs.System.{Sys, Pair}
 use Rattle.roman_model.specs.Arena.{Entry, IsOrder, replay, fall, readings}
 use Rattle.roman_model.specs.SystemArena.{arena}
 use Rattle.roman_model.specs.Change.{Change, rename, after}
-use Rattle.roman_model.specs.Numbers.{numbered, entry_at}
+use Rattle.roman_model.specs.Numbers.{entry_at}
 use Rattle.roman_joint.specs.NamedSys.{NamedSys, system_of}
+use Rattle.roman_joint.specs.Pairs.{arena_of}
 use Rattle.roman_joint.specs.Rows.{lanes_in}
 use Rattle.roman_order.specs.Board.{Board}
 use Rattle.roman_relation.specs.Shaped.{IsShaped}
-use Rattle.roman_relation.specs.Greatest.{arena_of, HasCaps, IsRelation}
+use Rattle.roman_relation.specs.Greatest.{HasCaps, IsRelation}
 use Rattle.roman_relation.specs.Settled.{Begins}
+use Rattle.roman_relation.specs.declared.relation.Relation.{Relation}
 use Rattle.roman_repair.specs.declared.tally.Tally.{Tally}
 
 -- the replay of the renamed old list, in the system after the change
@@ -29,6 +31,10 @@ pub record IsRepaired (change : Change) (old_joint : NamedSys) (old : Board) (ne
   pub relation : IsRelation new_joint new
   pub list : GoesOnFromReplay change (system_of old_joint) old.list new.list tally
 
+-- this holds of a relation before and after a repair
+abbrev pub Repairs : Change → Relation → Relation → Tally → Type 0
+Repairs change old new tally = IsRepaired change old.joint old.order new.joint new.order tally
+
 -- a removal list of the joint's system, in an order that is shaped for it, has room and has no waiting entries
 pub record IsBegun (joint : NamedSys) (order : Board) : Type 0 where
   pub valid : IsOrder (arena_of joint) order.list
@@ -44,10 +50,14 @@ pub record IsSettledOn (old : NamedSys) (begun : List (Entry ℕ)) (new : NamedS
   pub kept : tally.kept ≡ length begun
   pub added : tally.kept + tally.added ≡ length order.list
 
+-- this holds of a relation whose list began as `begun`, in the joint `old`
+abbrev pub SettlesFrom : NamedSys → List (Entry ℕ) → Relation → Tally → Type 0
+SettlesFrom old begun new tally = IsSettledOn old begun new.joint new.order tally
+
 -- the fall of a repair: the number of delegations that lead to the pairs that it added
-abbrev pub fall_of : NamedSys → Board → Tally → ℕ
-fall_of joint order tally = fall (numbered (system_of joint)) (drop tally.kept order.list)
+abbrev pub fall_of : Relation → Tally → ℕ
+fall_of relation tally = fall (arena_of relation.joint) (drop tally.kept relation.order.list)
 
 -- the steps are at most the fall plus the number of delegations of an allowed action to a ready seat in the new system
-abbrev pub IsWithinReading : NamedSys → Board → Tally → ℕ → ℕ → Type 0
-IsWithinReading joint order tally before now = now ≤ before + (fall_of joint order tally + readings (numbered (system_of joint)))
+abbrev pub IsWithinReading : Relation → Tally → ℕ → ℕ → Type 0
+IsWithinReading relation tally before now = now ≤ before + (fall_of relation tally + readings (arena_of relation.joint))

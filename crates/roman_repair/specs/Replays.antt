@@ -5,7 +5,7 @@ use Rattle.roman_model.specs.Arena.{Arena, Entry, replay_from}
 use Rattle.roman_model.specs.NumberedChange.{grown_numbers}
 use Rattle.roman_model.specs.declared.reason.Reason.{Reason}
 use Rattle.roman_model.specs.declared.reason.Reason.TheVariants.{Final, Act}
-use Rattle.roman_rules.specs.Asked.{readings_of_reason}
+use Rattle.roman_rules.specs.Probes.{readings_of_reason}
 use Rattle.roman_order.specs.Board.{Board, nodes_of, has_entry}
 
 -- whether the action of the reason is allowed at the node; true of a reason that names no action
@@ -24,7 +24,7 @@ pub record AreCandidates (A : Arena ℕ) (kept L : List (Entry ℕ)) : Type 0 wh
 abbrev pub with_replay : Arena ℕ → List (Entry ℕ) → List (Entry ℕ) → List (Entry ℕ)
 with_replay A kept L = kept ++ replay_from A (nodes_of kept) L
 
--- the number of seats that are asked about the reasons of all candidates
+-- the number of seats that are probed for the reasons of all candidates
 abbrev pub readings_of_entries : Arena ℕ → List (Entry ℕ) → ℕ
 readings_of_entries A L = sum_by (λ x. readings_of_reason A x.node x.reason) L
 

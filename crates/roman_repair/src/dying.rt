@@ -4,8 +4,8 @@ ghost use Rattle.std.specs.List.{remove};
 ghost use Rattle.roman_model.specs.System.{Seat};
 ghost use Rattle.roman_model.specs.Change.{Die, CanChange};
 ghost use Rattle.roman_joint.specs.NamedSys.{system_of};
-ghost use Rattle.roman_relation.specs.Greatest.{IsRelation};
-ghost use Rattle.roman_repair.specs.Repairs.{IsRepaired, fall_of};
+ghost use Rattle.roman_relation.specs.Greatest.{IsUpToDate};
+ghost use Rattle.roman_repair.specs.Repairs.{fall_of, Repairs};
 
 mod renaming;
 
@@ -19,19 +19,17 @@ use std::sync::ledger::Ledger;
 /// Removes the service at place `k` from the system, whatever its state. Later services move up by
 /// one place. Considers only the entries in which the service may leave its state behind: it
 /// doesn't rest, or the state is final. Of these the list keeps the first entry of each renamed
-/// pair. All of them are still justified, so no row is asked about them. Allocates no memory.
+/// pair. All of them are still justified, so no row is probed for them. Allocates no memory.
 ///
 /// The number of steps is at most the number of delegations that lead to added pairs. Requires a
 /// complete list.
 pub fn die<L: Ledger>(relation: &mut Relation, k: u8, steps: &mut Steps<L>) -> Tally
-    requires relation { IsRelation relation.old.joint relation.old.order }
+    requires relation { IsUpToDate relation.old }
     requires seat { k < length relation.old.joint.seats }
-    ensures joint { relation.new.joint
-        ≡ record relation.old.joint { seats = remove relation.old.joint.seats k } }
+    ensures joint { relation.new.joint ≡ record relation.old.joint { seats = remove relation.old.joint.seats k } }
     ensures repaired { (seat : Seat) → CanChange (Die k seat) (system_of relation.old.joint) →
-        IsRepaired (Die k seat) relation.old.joint relation.old.order
-        relation.new.joint relation.new.order result }
-    ensures cost { steps.new ≤ steps.old + fall_of relation.new.joint relation.new.order result }
+        Repairs (Die k seat) relation.old relation.new result }
+    ensures cost { steps.new ≤ steps.old + fall_of relation.new result }
 {
     relation.joint.known(); // the system is well formed
     relation.order.known(); // listed pairs are pairs of the system

@@ -1,11 +1,11 @@
 //! Freezes a service.
-ghost use Rattle.std.specs.Prelude.{◌≡◌, ◌+◌, ◌≤◌, length, slice_get, IsTrue, true};
+ghost use Rattle.std.specs.Prelude.{◌≡◌, ◌+◌, ◌≤◌, length, IsTrue, true};
 ghost use Rattle.roman_model.specs.SystemArena.{is_ready};
 ghost use Rattle.roman_model.specs.Change.{Freeze};
-ghost use Rattle.roman_joint.specs.NamedSys.{system_of};
 ghost use Rattle.roman_joint.specs.Changes.{with_frozen};
-ghost use Rattle.roman_relation.specs.Greatest.{IsRelation};
-ghost use Rattle.roman_repair.specs.Repairs.{IsRepaired, fall_of};
+ghost use Rattle.roman_relation.specs.Greatest.{IsUpToDate};
+ghost use Rattle.roman_repair.specs.Repairs.{fall_of, Repairs};
+ghost use Rattle.roman_joint.specs.Pairs.{joint_seat};
 
 use crate::settling::settle_on;
 use crate::tally::Tally;
@@ -19,12 +19,13 @@ use std::sync::ledger::Ledger;
 ///
 /// Requires a complete list.
 pub fn freeze<L: Ledger>(relation: &mut Relation, k: u8, steps: &mut Steps<L>) -> Tally
-    requires relation { IsRelation relation.old.joint relation.old.order }
-    requires ready { IsTrue (is_ready (slice_get (system_of relation.old.joint).seats k)) }
-    ensures joint { relation.new.joint ≡ record relation.old.joint { seats = with_frozen relation.old.joint.seats k true } }
-    ensures repaired { IsRepaired (Freeze k) relation.old.joint relation.old.order relation.new.joint relation.new.order result }
+    requires relation { IsUpToDate relation.old }
+    requires ready { IsTrue (is_ready (joint_seat relation.old.joint k)) }
+    ensures joint { relation.new.joint
+        ≡ record relation.old.joint { seats = with_frozen relation.old.joint.seats k true } }
+    ensures repaired { Repairs (Freeze k) relation.old relation.new result }
     ensures kept { result.kept ≡ length relation.old.order.list }
-    ensures cost { steps.new ≤ steps.old + fall_of relation.new.joint relation.new.order result }
+    ensures cost { steps.new ≤ steps.old + fall_of relation.new result }
 {
     relation.joint.known(); // the system is well formed
     relation.order.known(); // listed pairs are pairs of the system

@@ -4,8 +4,8 @@ ghost use Rattle.roman_model.specs.Lists.{IsIn};
 ghost use Rattle.roman_model.specs.Change.{Join, after};
 ghost use Rattle.roman_model.specs.declared.limits.TheConstants.{MAX_SERVICES};
 ghost use Rattle.roman_joint.specs.NamedSys.{seat_of, system_of, cells};
-ghost use Rattle.roman_relation.specs.Greatest.{IsRelation};
-ghost use Rattle.roman_repair.specs.Repairs.{IsRepaired, IsWithinReading};
+ghost use Rattle.roman_relation.specs.Greatest.{IsUpToDate};
+ghost use Rattle.roman_repair.specs.Repairs.{IsWithinReading, Repairs};
 
 use crate::replaying::Newcomer;
 use crate::settling::replay_and_settle_on;
@@ -31,16 +31,20 @@ pub fn join<L: Ledger>(
     seat: Seat,
     steps: &mut Steps<L>,
 ) -> Result<Tally, SeatError>
-    requires relation { IsRelation relation.old.joint relation.old.order }
+    requires relation { IsUpToDate relation.old }
     requires behaviour { seat.behaviour < length relation.old.joint.catalogue }
     requires name { IsIn seat.name (map (λ other. other.name) relation.old.joint.seats) → ⊥ }
     requires ready { IsFalse seat.frozen }
-    ensures joint { OnOk result (relation.new.joint ≡ record relation.old.joint { seats = relation.old.joint.seats ++ seat ∷ [] }) }
-    ensures repaired { IfOk result (λ tally. IsRepaired (Join (seat_of relation.old.joint.catalogue seat)) relation.old.joint relation.old.order relation.new.joint relation.new.order tally) }
-    ensures cost { IfOk result (λ tally. IsWithinReading relation.new.joint relation.new.order tally steps.old steps.new) }
+    ensures joint { OnOk result (relation.new.joint
+        ≡ record relation.old.joint { seats = relation.old.joint.seats ++ seat ∷ [] }) }
+    ensures repaired { IfOk result (λ tally. Repairs (Join
+        (seat_of relation.old.joint.catalogue seat)) relation.old relation.new tally) }
+    ensures cost { IfOk result (λ tally. IsWithinReading relation.new tally steps.old steps.new) }
     ensures full { (result ≡ Err SeatError.Full) ↔ (length relation.old.joint.seats ≡ MAX_SERVICES) }
     ensures limit { (result ≡ Err SeatError.Limit)
-        ↔ ((length relation.old.joint.seats < MAX_SERVICES) × (relation.old.joint.limit < cells (after (Join (seat_of relation.old.joint.catalogue seat)) (system_of relation.old.joint)))) }
+        ↔ ((length relation.old.joint.seats < MAX_SERVICES) ×
+        (relation.old.joint.limit < cells (after (Join (seat_of relation.old.joint.catalogue seat))
+        (system_of relation.old.joint)))) }
     ensures refused { OnErr result ((relation.new ≡ relation.old) × (steps.new ≡ steps.old)) }
 {
     relation.joint.known(); // the system is well formed

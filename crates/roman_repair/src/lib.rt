@@ -2,18 +2,17 @@
 //!
 //! Each call changes the system of a relation by one service and repairs the removal list in place.
 //! It renames the list to the pairs of the new system, keeps the entries that are still justified,
-//! in their order, and then completes the list. It asks rows and bands of rows, not pairs, whether
+//! in their order, and then completes the list. It probes rows and bands of rows, not pairs, whether
 //! entries are justified: what they answer about a reason serves the entries of their neighbours. After
-//! a thaw or a join only the changed service is asked, until an entry is dropped. A freeze and a death
-//! keep their entries without asking. No call allocates memory. Each call requires a
+//! a thaw or a join only the changed service is probed, until an entry is dropped. A freeze and a death
+//! keep their entries without probing. No call allocates memory. Each call requires a
 //! complete removal list, as [`Relation::build`](roman_relation::Relation::build) leaves it, and
 //! leaves a complete one. `specs/Repairs` says what a repaired relation is.
 #![tactic(auto)]
 
-mod alone;
-mod asked_band;
+mod band_probe;
+mod batches;
 mod dying;
-mod events;
 mod freezing;
 mod joining;
 mod lanes;

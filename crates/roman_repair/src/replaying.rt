@@ -1,15 +1,14 @@
 //! Replays the waiting entries, each for the pairs for which it stands.
 ghost use Rattle.std.specs.Prelude.{◌≡◌, []};
-ghost use Rattle.roman_repair.specs.Judging.{CanReplayEvent, Replays};
+ghost use Rattle.roman_repair.specs.Judging.{CanReplayBatch, Replays};
 ghost use Rattle.roman_repair.specs.Growing.{CanGrow, CanReplayAll, HasReplayedAll, IsGrown, entries_grown};
 ghost use Rattle.roman_repair.specs.Replays.{AreSlices, candidates};
 
-use crate::alone::OneSeat;
-use crate::asked_band::AskedBand;
-use crate::events::keep_lanes;
+use crate::band_probe::BandProbe;
+use crate::batches::keep_lanes;
 use crate::lanes::{first_part, spread_lanes};
 use roman_io::Steps;
-use roman_order::{Event, Order};
+use roman_order::{Batch, Order};
 use roman_rules::Rules;
 use std::sync::ledger::Ledger;
 
@@ -25,70 +24,73 @@ pub(crate) struct Newcomer {
     pub(crate) lanes: u32,
 }
 
-/// Returns the event for the first row with a pair for which the entries of the event stand, and the
-/// lanes of the event whose entries stand for pairs of other rows.
-fn first_grown<J: Rules>(joint: &J, newcomer: Newcomer, event: Event) -> (Event, u64)
-    requires { CanGrow (J.arena joint.now) (J.lanes joint.now) newcomer event }
-    ensures { IsGrown (J.lanes joint.now) newcomer event result.0 result.1 }
+/// Returns the batch for the first row with a pair for which the entries of the batch stand, and the
+/// lanes of the batch whose entries stand for pairs of other rows.
+fn first_grown<J: Rules>(joint: &J, newcomer: Newcomer, batch: Batch) -> (Batch, u64)
+    requires { CanGrow (J.arena joint.now) (J.lanes joint.now) newcomer batch }
+    ensures { IsGrown (J.lanes joint.now) newcomer batch result.0 result.1 }
 {
     joint.known(); // a row has 1 to 64 lanes, a pair's number fits 32 bits
     let width = u32::from(newcomer.states);
     let slices = joint.lanes() / width;
-    let (i, part, rest) = first_part(event.lanes, slices);
-    let grown = Event {
-        row: event.row * (newcomer.lanes / slices) + i,
-        reason: event.reason,
+    let (i, part, rest) = first_part(batch.lanes, slices);
+    let grown = Batch {
+        row: batch.row * (newcomer.lanes / slices) + i,
+        reason: batch.reason,
         lanes: spread_lanes(part, slices, width),
     };
     (grown, rest)
 }
 
-/// Replays the pairs for which the entries of the event stand. Its row becomes one or more whole rows, or
+/// Replays the pairs for which the entries of the batch stand. Its row becomes one or more whole rows, or
 /// stays as it is.
-fn keep_grown<J: OneSeat, L: Ledger>(
+fn keep_grown<J: Rules, L: Ledger>(
     joint: &J,
     order: &mut Order,
-    asked: &mut AskedBand,
+    probe: &mut BandProbe,
     newcomer: Newcomer,
-    event: Event,
+    batch: Batch,
     steps: &mut Steps<L>,
 )
-    requires ready { CanReplayEvent (J.arena joint.now) (J.lanes joint.now) newcomer.lanes (entries_grown newcomer) order.old asked.old event }
+    requires ready { CanReplayBatch (J.arena joint.now) (J.lanes joint.now) newcomer.lanes
+        (entries_grown newcomer) order.old probe.old batch }
     requires slices { AreSlices (J.lanes joint.now) newcomer.lanes newcomer.states }
-    ensures replayed { Replays (J.arena joint.now) (J.lanes joint.now) (entries_grown newcomer event) [] order.old.list order.new.list asked.old asked.new steps.old steps.new }
+    ensures replayed { Replays (J.arena joint.now) (J.lanes joint.now)
+        (entries_grown newcomer batch) [] order.old.list order.new.list probe.old probe.new steps.old steps.new }
     ensures rest { order.new ≡ record order.old { list = order.new.list } }
 {
     joint.known(); // a pair's number fits 32 bits, a row has 1 to 64 lanes
     if newcomer.states == 1 && newcomer.lanes == joint.lanes() {
-        return keep_lanes(joint, order, asked, event, steps);
+        return keep_lanes(joint, order, probe, batch, steps);
     }
-    let mut left = event.lanes;
+    let mut left = batch.lanes;
     'left: while left != 0 {
-        let whole = Event {
+        let whole = Batch {
             lanes: left,
-            ..event
+            ..batch
         };
         let (grown, rest) = first_grown(joint, newcomer, whole);
-        keep_lanes(joint, order, asked, grown, steps);
+        keep_lanes(joint, order, probe, grown, steps);
         left = rest;
     }
 }
 
 /// Replays the waiting entries, and appends those that it keeps to the list. Each entry stands for its
-/// own pair with each state of the newcomer. Asks the newcomer alone until an entry is dropped: no other
+/// own pair with each state of the newcomer. Probes the newcomer alone until an entry is dropped: no other
 /// seat keeps an entry from being justified.
-pub(crate) fn replay<J: OneSeat, L: Ledger>(
+pub(crate) fn replay<J: Rules, L: Ledger>(
     joint: &J,
     order: &mut Order,
     newcomer: Newcomer,
     steps: &mut Steps<L>,
 )
     requires { CanReplayAll (J.arena joint.now) (J.lanes joint.now) newcomer order.old }
-    ensures { HasReplayedAll (J.arena joint.now) (candidates newcomer.states order.old) order.old order.new steps.old steps.new }
+    ensures { HasReplayedAll (J.arena joint.now)
+        (candidates newcomer.states order.old) order.old order.new steps.old steps.new }
 {
     joint.known(); // a row has 1 to 64 lanes
-    let mut asked = AskedBand::nothing(Some(newcomer.k));
-    'replay: while let Some(event) = order.next_waiting_event() {
-        keep_grown(joint, order, &mut asked, newcomer, event, steps);
+    let mut probe = BandProbe::nothing(Some(newcomer.k));
+    'replay: while let Some(batch) = order.next_waiting_batch() {
+        keep_grown(joint, order, &mut probe, newcomer, batch, steps);
     }
 }

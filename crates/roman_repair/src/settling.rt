@@ -3,7 +3,7 @@ ghost use Rattle.std.specs.Prelude.{◌+◌, ◌≤◌};
 ghost use Rattle.roman_joint.specs.NamedSys.{system_of};
 ghost use Rattle.roman_relation.specs.Greatest.{HasCaps};
 ghost use Rattle.roman_repair.specs.Growing.{CanReadmit, replay_grown};
-ghost use Rattle.roman_repair.specs.Repairs.{IsBegun, IsSettledOn, IsWithinReading, fall_of};
+ghost use Rattle.roman_repair.specs.Repairs.{IsBegun, IsWithinReading, fall_of, SettlesFrom};
 
 use crate::replaying::{Newcomer, replay};
 use crate::tally::Tally;
@@ -16,8 +16,8 @@ use std::sync::ledger::Ledger;
 /// entries.
 pub(crate) fn settle_on<L: Ledger>(relation: &mut Relation, steps: &mut Steps<L>) -> Tally
     requires { IsBegun relation.old.joint relation.old.order }
-    ensures settled { IsSettledOn relation.old.joint relation.old.order.list relation.new.joint relation.new.order result }
-    ensures cost { steps.new ≤ steps.old + fall_of relation.new.joint relation.new.order result }
+    ensures settled { SettlesFrom relation.old.joint relation.old.order.list relation.new result }
+    ensures cost { steps.new ≤ steps.old + fall_of relation.new result }
 {
     let kept = relation.order.len();
     relation.settle(steps);
@@ -38,8 +38,9 @@ pub(crate) fn replay_and_settle_on<L: Ledger>(
 ) -> Tally
     requires caps { HasCaps relation.old.joint relation.old.order }
     requires ready { CanReadmit (system_of relation.old.joint) newcomer relation.old.order }
-    ensures settled { IsSettledOn relation.old.joint (replay_grown (system_of relation.old.joint) newcomer relation.old.order) relation.new.joint relation.new.order result }
-    ensures cost { IsWithinReading relation.new.joint relation.new.order result steps.old steps.new }
+    ensures settled { SettlesFrom relation.old.joint (replay_grown
+        (system_of relation.old.joint) newcomer relation.old.order) relation.new result }
+    ensures cost { IsWithinReading relation.new result steps.old steps.new }
 {
     relation.joint.known(); // allowed actions are actions of the system, a pair's number fits 32 bits
     let rows = relation.joint.rows();

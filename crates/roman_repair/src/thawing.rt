@@ -1,11 +1,11 @@
 //! Thaws a service.
-ghost use Rattle.std.specs.Prelude.{◌≡◌, ◌<◌, length, slice_get, IsFalse, false};
+ghost use Rattle.std.specs.Prelude.{◌≡◌, ◌<◌, length, IsFalse, false};
 ghost use Rattle.roman_model.specs.SystemArena.{is_ready};
 ghost use Rattle.roman_model.specs.Change.{Thaw};
-ghost use Rattle.roman_joint.specs.NamedSys.{system_of};
 ghost use Rattle.roman_joint.specs.Changes.{with_frozen};
-ghost use Rattle.roman_relation.specs.Greatest.{IsRelation};
-ghost use Rattle.roman_repair.specs.Repairs.{IsRepaired, IsWithinReading};
+ghost use Rattle.roman_relation.specs.Greatest.{IsUpToDate};
+ghost use Rattle.roman_repair.specs.Repairs.{IsWithinReading, Repairs};
+ghost use Rattle.roman_joint.specs.Pairs.{joint_seat};
 
 use crate::replaying::Newcomer;
 use crate::settling::replay_and_settle_on;
@@ -22,12 +22,13 @@ use std::sync::ledger::Ledger;
 ///
 /// Requires a complete list.
 pub fn thaw<L: Ledger>(relation: &mut Relation, k: u8, steps: &mut Steps<L>) -> Tally
-    requires relation { IsRelation relation.old.joint relation.old.order }
+    requires relation { IsUpToDate relation.old }
     requires place { k < length relation.old.joint.seats }
-    requires frozen { IsFalse (is_ready (slice_get (system_of relation.old.joint).seats k)) }
-    ensures joint { relation.new.joint ≡ record relation.old.joint { seats = with_frozen relation.old.joint.seats k false } }
-    ensures repaired { IsRepaired (Thaw k) relation.old.joint relation.old.order relation.new.joint relation.new.order result }
-    ensures cost { IsWithinReading relation.new.joint relation.new.order result steps.old steps.new }
+    requires frozen { IsFalse (is_ready (joint_seat relation.old.joint k)) }
+    ensures joint { relation.new.joint
+        ≡ record relation.old.joint { seats = with_frozen relation.old.joint.seats k false } }
+    ensures repaired { Repairs (Thaw k) relation.old relation.new result }
+    ensures cost { IsWithinReading relation.new result steps.old steps.new }
 {
     relation.joint.known(); // the system is well formed
     relation.order.known(); // listed pairs are pairs of the system

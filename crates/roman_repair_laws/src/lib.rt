@@ -9,14 +9,15 @@
 //! new list.
 #![tactic(auto)]
 
-ghost use Rattle.std.specs.Prelude.{◌<◌, length, map, slice_get, IfOk, IsFalse, IsTrue};
+ghost use Rattle.std.specs.Prelude.{◌<◌, length, map, IfOk, IsFalse, IsTrue};
 ghost use Rattle.roman_model.specs.Change.{CanChange, Die, Freeze, Join, Thaw};
 ghost use Rattle.roman_model.specs.Lists.{IsIn};
 ghost use Rattle.roman_model.specs.System as model;
 ghost use Rattle.roman_model.specs.SystemArena.{is_ready};
 ghost use Rattle.roman_joint.specs.NamedSys.{seat_of, system_of};
-ghost use Rattle.roman_relation.specs.Greatest.{IsRelation};
+ghost use Rattle.roman_relation.specs.Greatest.{IsUpToDate};
 ghost use Rattle.roman_repair_laws.specs.Calls.{CallKeepsTheMost};
+ghost use Rattle.roman_joint.specs.Pairs.{joint_seat};
 
 use roman_io::Steps;
 use roman_joint::Seat;
@@ -31,8 +32,8 @@ pub fn freeze_keeps_the_most<L: Ledger>(
     k: u8,
     steps: &mut Steps<L>,
 ) -> Tally
-    requires relation { IsRelation relation.old.joint relation.old.order }
-    requires ready { IsTrue (is_ready (slice_get (system_of relation.old.joint).seats k)) }
+    requires relation { IsUpToDate relation.old }
+    requires ready { IsTrue (is_ready (joint_seat relation.old.joint k)) }
     ensures kept { CallKeepsTheMost (Freeze k) relation.old.joint relation.old.order relation.new.order result }
 {
     repairs_keep_the_most();
@@ -42,9 +43,9 @@ pub fn freeze_keeps_the_most<L: Ledger>(
 
 /// Thaws a service by [`thaw`], which keeps the most entries.
 pub fn thaw_keeps_the_most<L: Ledger>(relation: &mut Relation, k: u8, steps: &mut Steps<L>) -> Tally
-    requires relation { IsRelation relation.old.joint relation.old.order }
+    requires relation { IsUpToDate relation.old }
     requires place { k < length relation.old.joint.seats }
-    requires frozen { IsFalse (is_ready (slice_get (system_of relation.old.joint).seats k)) }
+    requires frozen { IsFalse (is_ready (joint_seat relation.old.joint k)) }
     ensures kept { CallKeepsTheMost (Thaw k) relation.old.joint relation.old.order relation.new.order result }
 {
     repairs_keep_the_most();
@@ -60,11 +61,12 @@ pub fn join_keeps_the_most<L: Ledger>(
     seat: Seat,
     steps: &mut Steps<L>,
 ) -> Result<Tally, JoinError>
-    requires relation { IsRelation relation.old.joint relation.old.order }
+    requires relation { IsUpToDate relation.old }
     requires behaviour { seat.behaviour < length relation.old.joint.catalogue }
     requires name { IsIn seat.name (map (λ other. other.name) relation.old.joint.seats) → ⊥ }
     requires ready { IsFalse seat.frozen }
-    ensures kept { IfOk result (λ tally. CallKeepsTheMost (Join (seat_of relation.old.joint.catalogue seat)) relation.old.joint relation.old.order relation.new.order tally) }
+    ensures kept { IfOk result (λ tally. CallKeepsTheMost (Join
+        (seat_of relation.old.joint.catalogue seat)) relation.old.joint relation.old.order relation.new.order tally) }
 {
     repairs_keep_the_most();
     relation.joint.known(); // the system is well formed
@@ -75,7 +77,7 @@ pub fn join_keeps_the_most<L: Ledger>(
 
 /// Removes a service by [`die`], which keeps the most entries.
 pub fn die_keeps_the_most<L: Ledger>(relation: &mut Relation, k: u8, steps: &mut Steps<L>) -> Tally
-    requires relation { IsRelation relation.old.joint relation.old.order }
+    requires relation { IsUpToDate relation.old }
     requires seat { k < length relation.old.joint.seats }
     ensures kept { (seat : model.Seat) → CanChange (Die k seat) (system_of relation.old.joint) →
         CallKeepsTheMost (Die k seat) relation.old.joint relation.old.order relation.new.order result }

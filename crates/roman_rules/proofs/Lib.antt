@@ -1,5 +1,5 @@
 pub mod Common
 pub mod NumberedFacts
-pub mod Asking
+pub mod ProbeLemmas
 pub mod Serving
 pub mod CallerLemmas

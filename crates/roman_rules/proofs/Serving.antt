@@ -1,5 +1,5 @@
 -- The bits of masks, and the number of seats in the masks of a row's pairs.
-use Rattle.roman_rules.proofs.Common.{◌≡◌, ℕ, zero, suc, ◌+◌, ◌-◌, ◌*◌, ◌%◌, ◌^◌, ◌<◌, ◌≤◌, Bool, cond, not, length, sum_by, count_ones, IsTrue, IsFalse, inl, inr, refl, sym, ap, ◌∙◌, arith, bit_at, pow_pos, cases_eq, cases_lt, cond-true, cond-false, both_ways, not_from_true, eq-eqb, ne_eqb, sum_by_push, length-filter, add-suc, add-zero, ones-le, ones_cat, ones_le_self, zero_from_ones, mod-pow-add, bit_at-lt, bit_at-zero, below, is_empty, has, Arena, is_beaten, mask, by_test, from_below, sum_by_same, empty_is, not_empty_in, mask_none, mask_has, mask_has_past, beaten_none, is_on, HasLanes, HasBits, bit_of, has_seat, IsNumbered}
+use Rattle.roman_rules.proofs.Common.{◌≡◌, ℕ, zero, suc, ◌+◌, ◌-◌, ◌*◌, ◌%◌, ◌^◌, ◌<◌, ◌≤◌, Bool, cond, not, length, sum_by, count_ones, IsTrue, IsFalse, refl, sym, ap, ◌∙◌, arith, bit_at, cases_eq, cases_lt, cond-true, cond-false, both_ways, not_from_true, sum_by_push, length-filter, add-suc, add-zero, ones-le, bit_at-zero, below, is_empty, has, Arena, is_beaten, mask, by_test, from_below, sum_by_same, empty_is, not_empty_in, mask_none, mask_has, mask_has_past, beaten_none, is_on, HasLanes, HasBits, bit_of, has_seat, IsNumbered, low_ones, bit_is}
 
 -- ---- an action that isn't allowed
 
@@ -65,20 +65,6 @@ sum_cut f m n l none =
     omega (arith, ap (λ k. sum_by f (below k)) rest, sum_further f m (n - m), sum_zero (λ i. f (m + i)) (n - m) (λ i h. none (m + i) (omega arith) (omega arith)))
 
 -- ---- the ones of a word
-
-bit_ones : (b : ℕ) → b < 2 → count_ones b ≡ b
-bit_ones b l = elim (cases_eq (count_ones b) 0) [ inl e ↦ e ∙ sym (zero_from_ones b e) | inr some ↦ omega (arith, ones_le_self b) ]
-
--- the number of ones among the lowest digits is the sum of these bits
-low_ones : (n k : ℕ) → count_ones (n % 2 ^ k) ≡ sum_by (bit_at n) (below k)
-low_ones n zero = let none : n % 1 ≡ 0 = omega arith in ap count_ones none ∙ bit_ones 0 (omega arith)
-low_ones n (suc k) =
-    let split : n % 2 ^ suc k ≡ bit_at n k * 2 ^ k + n % 2 ^ k = (let same : suc k ≡ 1 + k = omega arith in ap (λ j. n % 2 ^ j) same) ∙ mod-pow-add n 1 k in
-    omega (arith, ap count_ones split, ones_cat k (bit_at n k) (n % 2 ^ k) (omega (arith, pow_pos k)), bit_ones (bit_at n k) (bit_at-lt n k), low_ones n k, sum_by_push (bit_at n) (below k) k)
-
-bit_is : (word lane : ℕ) → bit_at word lane ≡ cond (is_on word lane) 1 0
-unfolding is_on
-bit_is word lane = grind (arith, bit_at-lt, cases_eq, cond-false, cond-true, eq-eqb, ne_eqb)
 
 -- the number of ones in a row's word is the number of lanes at which the test passes
 pub ones_counted : (lanes row : ℕ) (test : ℕ → Bool) (word : ℕ) → lanes ≤ 64 → word < 2 ^ 64 → HasLanes lanes row test word → count_ones word ≡ sum_by (λ lane. cond (test (row * lanes + lane)) 1 0) (below lanes)

@@ -1,4 +1,4 @@
 pub mod Bits
 pub mod Finding
 pub mod Numbered
-pub mod Asked
+pub mod Probes

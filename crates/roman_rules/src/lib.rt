@@ -8,14 +8,14 @@
 //! numbering.
 #![tactic(auto)]
 
-mod asked;
 mod finding;
+mod probe;
 mod rules;
 mod seat_set;
 mod words;
 
-pub use asked::Asked;
 pub use finding::Finding;
+pub use probe::{RowProbe, tick_ready};
 pub use rules::Rules;
 pub use seat_set::{SeatSet, with_bit};
-pub use words::{are_clear, copy_rows};
+pub use words::{BAND, are_clear, copy_rows};

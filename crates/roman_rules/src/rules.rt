@@ -3,7 +3,7 @@ ghost use Rattle.std.specs.Prelude.{◌≡◌, ℕ, ◌+◌, ◌*◌, ◌/◌, �
 ghost use Rattle.std.specs.Prelude.{length, count_by, ltb, sum_by, IsTrue};
 ghost use Rattle.roman_model.specs.Lists.{IsIn, below};
 ghost use Rattle.roman_model.specs.System.{has};
-ghost use Rattle.roman_model.specs.Arena.{Arena, is_justified, mask as mask_of, back as predecessors};
+ghost use Rattle.roman_model.specs.Arena.{Arena, is_beaten, is_justified, mask as mask_of, back as predecessors};
 ghost use Rattle.roman_model.specs.Numbers.{Sizes};
 ghost use Rattle.roman_lanes.specs.Rows.{is_on, HasLanes, AreRows, Keeps};
 ghost use Rattle.roman_lanes.specs.Flags.{has_flag};
@@ -114,7 +114,8 @@ pub trait Rules {
     fn row_actions(&self, row: &Self::Row) -> u32
         ensures row { (x lane : ℕ) → is_row self.now x row.now → lane < lanes self.now →
             HasBits result ((arena self.now).allows (x * lanes self.now + lane)) }
-        ensures band { (y i lane : ℕ) → is_row self.now (y * band self.now) row.now → i < band self.now → lane < lanes self.now →
+        ensures band { (y i lane : ℕ) → is_row self.now (y * band self.now) row.now → i < band self.now →
+            lane < lanes self.now →
             HasBits result ((arena self.now).allows ((y * band self.now + i) * lanes self.now + lane)) };
 
     /// Returns the pairs of a row that don't meet clause 2 of an ND-simulation. No bit is set past the
@@ -137,7 +138,8 @@ pub trait Rules {
         requires long { length left.old ≡ band self.now }
         ensures long { length left.new ≡ length left.old }
         ensures unfine { (y : ℕ) → is_row self.now (y * band self.now) row.now →
-            Keeps (lanes self.now) (y * band self.now) (band self.now) (λ p. not ((arena self.now).fine p)) left.old left.new };
+            Keeps (lanes self.now) (y * band self.now) (band self.now)
+            (λ p. not ((arena self.now).fine p)) left.old left.new };
 
     /// Returns the mask of the action `a` at the pair at a lane of a row: the seats that serve the
     /// action there.
@@ -159,9 +161,37 @@ pub trait Rules {
         requires room { length words.now * lanes self.now ≡ length (arena self.now).nodes }
         ensures counted { (y : ℕ) (gone : ℕ → Bool) → is_row self.now (y * band self.now) row.now →
             AreRows (lanes self.now) (λ q. not (gone q)) words.now →
-            result ≡ sum_by (λ i. sum_by (λ lane. length (mask_of (arena self.now) gone ((y * band self.now + i) * lanes self.now + lane) a))
+            result
+            ≡ sum_by (λ i. sum_by (λ lane. length (mask_of (arena self.now) gone
+            ((y * band self.now + i) * lanes self.now + lane) a))
             (below (lanes self.now))) (below (band self.now)) }
         ensures few { result ≤ 131072 };
+
+    /// Returns the pairs of a row at which seat `k` serves the action `a`: the seat is ready, and has an
+    /// outcome there and none that is gone. No bit is set past the lanes, or where the target doesn't
+    /// allow the action.
+    fn good(&self, row: &Self::Row, words: &[u64], a: u8, k: u8) -> u64
+        requires row { (x : ℕ) × is_row self.now x row.now }
+        requires action { a < (arena self.now).actions }
+        requires seat { k < (arena self.now).seats }
+        requires room { length words.now * lanes self.now ≡ length (arena self.now).nodes }
+        ensures { (x : ℕ) (gone : ℕ → Bool) → is_row self.now x row.now →
+            AreRows (lanes self.now) (λ q. not (gone q)) words.now →
+            HasLanes (lanes self.now) x (λ p. not (is_beaten (arena self.now) gone p a k)) result };
+
+    /// Clears, in `left`, the pairs of a band at which seat `k` serves the action `a`. `left` has one
+    /// word for each row of the band.
+    fn clear_good(&self, row: &Self::Row, words: &[u64], a: u8, k: u8, left: &mut [u64])
+        requires row { (y : ℕ) × is_row self.now (y * band self.now) row.now }
+        requires action { a < (arena self.now).actions }
+        requires seat { k < (arena self.now).seats }
+        requires room { length words.now * lanes self.now ≡ length (arena self.now).nodes }
+        requires long { length left.old ≡ band self.now }
+        ensures long { length left.new ≡ length left.old }
+        ensures left { (y : ℕ) (gone : ℕ → Bool) → is_row self.now (y * band self.now) row.now →
+            AreRows (lanes self.now) (λ q. not (gone q)) words.now →
+            Keeps (lanes self.now) (y * band self.now) (band self.now)
+            (λ p. is_beaten (arena self.now) gone p a k) left.old left.new };
 
     /// Returns those of the pairs `wanted` of a row at which the action `a` is allowed and no seat
     /// serves it. A bit that isn't set in `wanted` isn't set in the result.
@@ -172,7 +202,8 @@ pub trait Rules {
         ensures lost { (x : ℕ) (gone : ℕ → Bool) → is_row self.now x row.now →
             AreRows (lanes self.now) (λ q. not (gone q)) words.now →
             (lane : ℕ) → lane < lanes self.now →
-            is_on result lane ≡ (is_on wanted lane && is_justified (arena self.now) gone (x * lanes self.now + lane) (Reason.Act a)) }
+            is_on result lane ≡ (is_on wanted lane
+            && is_justified (arena self.now) gone (x * lanes self.now + lane) (Reason.Act a)) }
         ensures within { (lane : ℕ) → is_on wanted lane ≡ false → is_on result lane ≡ false };
 
     /// Clears, in `left`, the pairs of a band at which the action `a` isn't allowed or some seat
@@ -185,7 +216,8 @@ pub trait Rules {
         ensures long { length left.new ≡ length left.old }
         ensures lost { (y : ℕ) (gone : ℕ → Bool) → is_row self.now (y * band self.now) row.now →
             AreRows (lanes self.now) (λ q. not (gone q)) words.now →
-            Keeps (lanes self.now) (y * band self.now) (band self.now) (λ p. is_justified (arena self.now) gone p (Reason.Act a)) left.old left.new };
+            Keeps (lanes self.now) (y * band self.now) (band self.now)
+            (λ p. is_justified (arena self.now) gone p (Reason.Act a)) left.old left.new };
 
     /// Marks each band with a pair that has a pair of the given band as an outcome. It can mark other
     /// bands as well. `marks` has one flag for each band, 64 to a word. Flags that are set stay set.
@@ -196,12 +228,16 @@ pub trait Rules {
         requires row { (y : ℕ) × is_row self.now (y * band self.now) row.now }
         requires room { length (arena self.now).nodes ≤ 64 * length marks.old * band self.now * lanes self.now }
         ensures long { length marks.new ≡ length marks.old }
-        ensures marked { (y i lane p a k : ℕ) → is_row self.now (y * band self.now) row.now → i < band self.now → lane < lanes self.now →
-            p < length (arena self.now).nodes → IsIn ((y * band self.now + i) * lanes self.now + lane) ((arena self.now).outcomes p a k) →
+        ensures marked { (y i lane p a k : ℕ) → is_row self.now (y * band self.now) row.now → i < band self.now →
+            lane < lanes self.now →
+            p < length (arena self.now).nodes → IsIn ((y * band self.now + i) * lanes self.now + lane)
+            ((arena self.now).outcomes p a k) →
             has_flag marks.new (p / lanes self.now / band self.now) ≡ true }
         ensures still { (y : ℕ) → has_flag marks.old y ≡ true → has_flag marks.new y ≡ true }
-        ensures steps { (y i lane : ℕ) → is_row self.now (y * band self.now) row.now → i < band self.now → lane < lanes self.now →
-            steps.new ≡ steps.old + count_by (λ d. ltb d.seat (mid self.now)) (predecessors (arena self.now) ((y * band self.now + i) * lanes self.now + lane)) };
+        ensures steps { (y i lane : ℕ) → is_row self.now (y * band self.now) row.now → i < band self.now →
+            lane < lanes self.now →
+            steps.new ≡ steps.old + count_by (λ d. ltb d.seat (mid self.now))
+            (predecessors (arena self.now) ((y * band self.now + i) * lanes self.now + lane)) };
 
     /// Examines the outcomes of the action `a` at the pair `p`, delegated to seat `k`, and finds the
     /// first that isn't alive. Requires that the action is allowed at the pair, that the seat is

@@ -6,7 +6,7 @@ ghost use Rattle.roman_rules.specs.Bits.{has_seat};
 use std::marker::Model;
 
 /// Returns the set `bits` of numbers below 32, with `k` added if `is_in` is true.
-#[tactic(auto, using(crate::proofs::Asking::added_same, crate::proofs::Asking::added_other))]
+#[tactic(auto, using(crate::proofs::ProbeLemmas::added_same, crate::proofs::ProbeLemmas::added_other))]
 pub fn with_bit(bits: u32, k: u8, is_in: bool) -> u32
     requires { k < 32 }
     ensures own { bit_at result k ≡ (if is_in then 1 else bit_at bits k) }

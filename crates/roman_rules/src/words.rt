@@ -1,6 +1,9 @@
 //! The words of the rows of a band.
 ghost use Rattle.std.specs.Prelude.{◌≡◌, ℕ, ◌+◌, ◌<◌, ◌≤◌, true, length, slice_index};
 
+/// The greatest number of rows in a band.
+pub const BAND: usize = 64;
+
 /// Copies the words of the rows from the row `x` on to `to`, as many as `to` has places.
 pub fn copy_rows(words: &[u64], x: u32, to: &mut [u64])
     requires { x + length to.old ≤ length words.now }

@@ -1,5 +1,5 @@
 -- What follows from the step of an answer.
-use Rattle.roman_session.proofs.Common.{◌≡◌, ℕ, List, [], ◌++◌, Option, Result, Ok, Err, inl, inr, refl, sym, ap, subst, Puts, Puts-after_Gathered, reply_text, Situation, present_system, IsSituation, IsPhase, Delegated, Gathered, Gathers, Gathered-put, LineShape, saw, shape_of, LineError, Step, StepOn, StepBy, Answered, AnsweredOn, DoneOn, SeenStaysGreat, IsGreat, shown, related_great, TurnsInto}
+use Rattle.roman_session.proofs.Common.{◌≡◌, ℕ, List, [], ◌++◌, Option, Result, Ok, Err, inl, inr, refl, sym, ap, subst, Puts, Puts-after_Gathered, reply_text, Situation, present_system, IsSituation, IsPhase, Delegated, Gathers, LineShape, observe, shape_of, LineError, Step, StepOn, StepBy, Answered, AnsweredOn, DoneOn, ObservedStaysGreat, IsGreat, shown, related_great, TurnsInto}
 use Rattle.roman_text.specs.declared.replies.Reply.TheVariants as reply
 use Rattle.roman_session.proofs.StepLemmas.{delegation_serves}
 
@@ -9,11 +9,6 @@ use Rattle.roman_session.proofs.StepLemmas.{delegation_serves}
 pub done : {T E : Type 0} (old new : Situation) (shape : LineShape) (before after : Option (List ℕ)) (held holds text : List ℕ) (result : Result T E) → Gathers before after holds (held ++ text) result → StepOn old shape text new →
     DoneOn old shape new before after held holds result
 done old new shape before after held holds text result gathers step = record { text = text; step = step; gathers = gathers }
-
--- bytes that were put while the page held nothing
-pub puts_gathered : {T E : Type 0} (old new : Option (List ℕ)) (held bytes : List ℕ) (result : Result T E) → held ≡ [] → Puts old new bytes result → Gathers old new held bytes result
-puts_gathered old new held bytes (Ok x) empty puts = subst (λ (xs : List ℕ). Gathered old new xs bytes) (sym empty) (Gathered-put old new bytes puts)
-puts_gathered old new held bytes (Err e) empty puts = (puts, empty)
 
 -- a reply that was pushed on an empty page, which was flushed then
 pub answered_whole : {T E T' E' : Type 0} (old new : Situation) (line : List ℕ) (before mid after : Option (List ℕ)) (held holds : List ℕ) (x : T) (result : Result T' E') → held ≡ [] →
@@ -38,20 +33,20 @@ step_unshaped old line why is = subst (λ (r : Result LineShape LineError). Step
 
 -- the pair of an open delegation is related
 stays_great : (old new : Situation) (a k : ℕ) → IsSituation old → old.phase ≡ Delegated a k → shown new ≡ shown old → IsGreat (shown new)
-stays_great old new a k is handed same =
-    let phase = subst (IsPhase old) handed is.phase in
+stays_great old new a k is delegated same =
+    let phase = subst (IsPhase old) delegated is.phase in
     subst IsGreat (sym same) (related_great (present_system old) old.here is.parts.system is.here phase.0.0)
 
--- the pair is related after an outcome of the delegate was seen
-pub seen_great : (old new : Situation) (state env text : List ℕ) (a k : ℕ) → IsSituation old → old.phase ≡ Delegated a k → TurnsInto (shown old) (Ok (saw state env)) text (shown new) → IsGreat (shown new)
-seen_great old new state env text a k is handed (inr (none, refused)) = absurd (none (a, k, handed))
-seen_great old new state env text a k is handed (inl ((b, l, delegated), inr (none, (says, same)))) = stays_great old new a k is handed same
-seen_great old new state env text a k is handed (inl ((b, l, delegated), inl (there, inr (none, (says, same))))) = stays_great old new a k is handed same
-seen_great old new state env text a k is handed (inl ((b, l, delegated), inl (there, inl (named, inr (none, (says, same)))))) = stays_great old new a k is handed same
-seen_great old new state env text a k is handed (inl ((b, l, delegated), inl (there, inl (named, inl (possible, (t, target, (says, becomes))))))) =
-    let phase = subst (IsPhase old) delegated is.phase in
+-- the pair is related after an outcome of the delegate was observed
+pub observed_great : (old new : Situation) (state env text : List ℕ) (a k : ℕ) → IsSituation old → old.phase ≡ Delegated a k → TurnsInto (shown old) (Ok (observe state env)) text (shown new) → IsGreat (shown new)
+observed_great old new state env text a k is delegated (inr (none, refused)) = absurd (none (a, k, delegated))
+observed_great old new state env text a k is delegated (inl ((b, l, opened), inr (none, (says, same)))) = stays_great old new a k is delegated same
+observed_great old new state env text a k is delegated (inl ((b, l, opened), inl (there, inr (none, (says, same))))) = stays_great old new a k is delegated same
+observed_great old new state env text a k is delegated (inl ((b, l, opened), inl (there, inl (named, inr (none, (says, same)))))) = stays_great old new a k is delegated same
+observed_great old new state env text a k is delegated (inl ((b, l, opened), inl (there, inl (named, inl (possible, (t, target, (says, becomes))))))) =
+    let phase = subst (IsPhase old) opened is.phase in
     subst IsGreat (sym becomes) ((delegation_serves old b l is phase t named.0 target).1 _ possible)
 
-pub stays_related : (old new : Situation) (line text : List ℕ) → IsSituation old → Step old line text new → SeenStaysGreat old line new
+pub stays_related : (old new : Situation) (line text : List ℕ) → IsSituation old → Step old line text new → ObservedStaysGreat old line new
 unfolding Step
-stays_related old new line text is step state env a k shape handed = seen_great old new state env text a k is handed (subst (λ (r : Result LineShape LineError). StepBy old r text new) shape step).0
+stays_related old new line text is step state env a k shape delegated = observed_great old new state env text a k is delegated (subst (λ (r : Result LineShape LineError). StepBy old r text new) shape step).0

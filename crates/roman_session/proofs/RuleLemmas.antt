@@ -1,7 +1,8 @@
 -- What the checks of an event find.
-use Rattle.roman_session.proofs.Common.{◌≡◌, ℕ, not, ◌<◌, ◌∙◌, Bool, true, false, List, length, length-map, IsFalse, IsTrue, not-true, false≢true, same_Some, Err, Ok, Some, inl, inr, refl, sym, ap, subst, arith, slice_get, slice_set, is_allowed, is_related, allowed_in, from_allowed, related_great, great_related, number_listed, listed_number, has, offers, seat_read, system_of, seat_of, moved, NamedSys, Seat, FindsPlace, Tests, StepOn, CanRequest, CanSee, CanJoin, AddsService, Needs, Replies, Refuses, SStep, TStep, CanMove, ask, saw, join, report, explain, Sight, Joining, names_in, name_at, reply_text, Reply, Delegated, Offered, Idle, IsOpen, IsPhase, get_or_from_slice_get, offer_text, report_text, explain_text, Situation, present_system, shown, IsSituation, IsReady, IsGreat, MayAsk, ServesHere, Inside, situation_in, [], is_ok, IsIn, get_in, Result, OffersServing}
+use Rattle.roman_session.proofs.Common.{◌≡◌, ℕ, not, ◌<◌, ◌∙◌, Bool, true, false, List, length, length-map, IsFalse, IsTrue, not-true, false≢true, same_Some, Err, Ok, Some, inl, inr, refl, sym, ap, subst, arith, slice_get, slice_set, is_allowed, is_related, allowed_in, from_allowed, related_great, great_related, number_listed, listed_number, has, offers, seat_read, system_of, seat_of, moved, NamedSys, Seat, FindsPlace, Tests, StepOn, CanRequest, CanObserve, CanJoin, JoinWords, join_of, Joins, Needs, Replies, Refuses, SStep, TStep, CanMove, request, observe, report, explain, Observation, Joining, names_in, name_at, reply_text, Reply, Delegated, Offered, Idle, IsOpen, IsPhase, get_or_from_slice_get, offer_text, report_text, explain_text, Situation, present_system, shown, IsSituation, IsReady, IsGreat, MayRequest, ServesHere, Inside, situation_in, [], is_ok, IsIn, get_in, Result, OffersServing, ServiceChange, event_of, Place, map, seat_name, IsAt}
 use Rattle.roman_model.specs.System as model
 use Rattle.roman_text.specs.declared.replies.Reply.TheVariants as reply
+use Rattle.roman_session.specs.declared.events.ServiceChange.TheVariants as kind
 use Rattle.roman_session.proofs.NameLemmas.{in_place}
 use Rattle.roman_session.proofs.RefutationLemmas.{refutes}
 use Rattle.roman_session.proofs.WordLemmas.{offers_serving, reports_both}
@@ -17,13 +18,13 @@ pub great_tests : (s : Situation) → IsSituation s → Tests (is_related (prese
 great_tests s is = tests _ _ (related_great (present_system s) s.here is.parts.system is.here) (great_related (present_system s) s.here is.parts.system)
 
 -- the test of an action
-pub may_tests : (s : Situation) (a : ℕ) → IsSituation s → Tests (is_allowed (present_system s) s.here a) (MayAsk (shown s) a)
+pub may_tests : (s : Situation) (a : ℕ) → IsSituation s → Tests (is_allowed (present_system s) s.here a) (MayRequest (shown s) a)
 may_tests s a is = tests _ _ (from_allowed (present_system s) s.here a) (allowed_in (present_system s) s.here a is.parts.system)
 
 -- the test of a service for the requested action
 pub offered_tests : (s : Situation) (a k : ℕ) → IsSituation s → s.phase ≡ Offered a → k < length s.parts.seats → Tests (has (offers (present_system s) s.here a) k) (ServesHere (shown s) a k)
-offered_tests s a k is asked l =
-    let serving = offers_serving (shown s) a is.parts.system is.here (subst (IsPhase s) asked is.phase).1 in
+offered_tests s a k is requested l =
+    let serving = offers_serving (shown s) a is.parts.system is.here (subst (IsPhase s) requested is.phase).1 in
     tests _ _ (λ offered. ((serving.exact k).0 (number_listed (offers (present_system s) s.here a) k offered)).1)
     (λ serves. listed_number (offers (present_system s) s.here a) k ((serving.exact k).1 (omega (arith, l, length-map s.parts.seats (seat_of s.parts.catalogue)), serves)))
 
@@ -52,76 +53,90 @@ pub may_open : (s : Situation) (action : List ℕ) (a : ℕ) → IsSituation s �
 may_open s action a is can = (great_related (present_system s) s.here is.parts.system can.great, allowed_in (present_system s) s.here a is.parts.system can.may)
 
 -- the offered services are those that serve
-pub offers_said : (s : Situation) (a : ℕ) → IsSituation s → MayAsk (shown s) a → OffersServing (shown s) a (offer_text s a)
+pub offers_said : (s : Situation) (a : ℕ) → IsSituation s → MayRequest (shown s) a → OffersServing (shown s) a (offer_text s a)
 unfolding offer_text
 offers_said s a is may =
     record { services = offers (present_system s) s.here a; serving = offers_serving (shown s) a is.parts.system is.here (allowed_in (present_system s) s.here a is.parts.system may); says = refl }
 
 -- the step of a request
-pub asks : (old new : Situation) (action : List ℕ) (a : ℕ) → IsSituation old → CanRequest old action a → new ≡ record old { phase = Offered a } → StepOn old (ask action) (offer_text new a) new
+pub requests : (old new : Situation) (action : List ℕ) (a : ℕ) → IsSituation old → CanRequest old action a → new ≡ record old { phase = Offered a } → StepOn old (request action) (offer_text new a) new
 unfolding offer_text
-asks old new action a is can becomes =
-    subst (λ (s : Situation). StepOn old (ask action) (offer_text s a) s) (sym becomes) (inl ((a, can.at), inl (can.idle, inl (can.great, inl (can.may, (offers_said old a is can.may, refl))))), refl)
+requests old new action a is can becomes =
+    subst (λ (s : Situation). StepOn old (request action) (offer_text s a) s) (sym becomes) (inl ((a, can.at), inl (can.idle, inl (can.great, inl (can.may, (offers_said old a is can.may, refl))))), refl)
 
 -- ---- use
 
 -- the phase after a delegation that isn't refused is possible
-pub hand_opens : (s : Situation) (a k : ℕ) → IsSituation s → s.phase ≡ Offered a → ServesHere (shown s) a k → k < length s.parts.seats → IsPhase s (Delegated a k)
-hand_opens s a k is asked serves l =
-    let opens = subst (IsPhase s) asked is.phase in
+pub delegate_opens : (s : Situation) (a k : ℕ) → IsSituation s → s.phase ≡ Offered a → ServesHere (shown s) a k → k < length s.parts.seats → IsPhase s (Delegated a k)
+delegate_opens s a k is requested serves l =
+    let opens = subst (IsPhase s) requested is.phase in
     let serving = offers_serving (shown s) a is.parts.system is.here opens.1 in
     (opens, (serving.exact k).1 (omega (arith, l, length-map s.parts.seats (seat_of s.parts.catalogue)), serves))
 
 -- ---- saw
 
--- saw: the pair moves to what was seen, or that is impossible
-abbrev pub Sees : Situation → List ℕ → Sight → List ℕ → Situation → Type 0
-Sees s env x text new =
+-- saw: the pair moves to what was observed, or that is impossible
+abbrev pub Observes : Situation → List ℕ → Observation → List ℕ → Situation → Type 0
+Observes s env x text new =
     Needs (SStep (present_system s) s.here.bs s.here.e x.action x.seat (slice_set s.here.bs x.seat x.state) x.env) (Refuses (shown s) text (shown new) reply.Impossible) (λ possible.
     (t : ℕ) × TStep (present_system s) s.here.t s.here.e x.action t x.env
     × (Replies (reply.Now (name_at s.parts.target.states t) env) text × (shown new ≡ record (shown s) { here = record { t = t; e = x.env; bs = slice_set s.here.bs x.seat x.state }; phase = Idle })))
 
 -- the step of an outcome that can be judged
-pub sees : (s new : Situation) (state env : List ℕ) (x : Sight) (text : List ℕ) → CanSee s state env x → Sees s (name_at s.parts.environment.states x.env) x text new → new.list ≡ s.list → StepOn s (saw state env) text new
-sees s new state env x text can acts list = (
+pub observes : (s new : Situation) (state env : List ℕ) (x : Observation) (text : List ℕ) → CanObserve s state env x → Observes s (name_at s.parts.environment.states x.env) x text new → new.list ≡ s.list → StepOn s (observe state env) text new
+observes s new state env x text can acts list = (
   inl (
-    (x.action, x.seat, can.handed),
+    (x.action, x.seat, can.delegated),
     inl (
       (x.state, can.at),
       inl (
         (x.env, can.named),
-        subst (λ (name : List ℕ). Sees s name x text new) (get_or_from_slice_get s.parts.environment.states x.env env [] can.named) acts,
+        subst (λ (name : List ℕ). Observes s name x text new) (get_or_from_slice_get s.parts.environment.states x.env env [] can.named) acts,
       ),
     ),
   ),
   list,
 )
 
--- no step leads to what was seen
-pub sees_never : (a : Inside) (s : Situation) (x : Sight) (name bs : List ℕ) → situation_in a ≡ s → bs ≡ a.states.items →
-    (CanMove (system_of a.relation.joint) (record { t = a.target; e = a.env; bs = bs }) x.action x.seat x.state x.env → ⊥) → Sees s name x (reply_text reply.Impossible) s
-sees_never a s x name bs view same never =
+-- no step leads to what was observed
+pub observes_never : (a : Inside) (s : Situation) (x : Observation) (name bs : List ℕ) → situation_in a ≡ s → bs ≡ a.states.items →
+    (CanMove (system_of a.relation.joint) (record { t = a.target; e = a.env; bs = bs }) x.action x.seat x.state x.env → ⊥) → Observes s name x (reply_text reply.Impossible) s
+observes_never a s x name bs view same never =
     let none = subst (λ (bs : List ℕ). CanMove (system_of a.relation.joint) (record { t = a.target; e = a.env; bs = bs }) x.action x.seat x.state x.env → ⊥) same never in
     inr (subst (λ (s : Situation). CanMove (present_system s) s.here x.action x.seat x.state x.env → ⊥) view none, (refl, refl))
 
--- the pair moves to what was seen
-pub sees_moved : (a : Inside) (s new : Situation) (x : Sight) (to : ℕ) (name bs text : List ℕ) → situation_in a ≡ s → bs ≡ a.states.items →
+-- the pair moves to what was observed
+pub observes_moved : (a : Inside) (s new : Situation) (x : Observation) (to : ℕ) (name bs text : List ℕ) → situation_in a ≡ s → bs ≡ a.states.items →
     TStep (system_of a.relation.joint) a.target a.env x.action to x.env × CanMove (system_of a.relation.joint) (record { t = a.target; e = a.env; bs = bs }) x.action x.seat x.state x.env →
-    new ≡ record s { here = moved s.here to x.env x.seat x.state; phase = Idle } → text ≡ reply_text (reply.Now (name_at s.parts.target.states to) name) → Sees s name x text new
-sees_moved a s new x to name bs text view same (target, system) becomes says =
+    new ≡ record s { here = moved s.here to x.env x.seat x.state; phase = Idle } → text ≡ reply_text (reply.Now (name_at s.parts.target.states to) name) → Observes s name x text new
+observes_moved a s new x to name bs text view same (target, system) becomes says =
     let can = subst (λ (bs : List ℕ). CanMove (system_of a.relation.joint) (record { t = a.target; e = a.env; bs = bs }) x.action x.seat x.state x.env) same system in
     let steps = subst (λ (s : Situation). TStep (present_system s) s.here.t s.here.e x.action to x.env × CanMove (present_system s) s.here x.action x.seat x.state x.env) view (target, can) in
     inl (steps.1, (to, steps.0, (says, ap shown becomes)))
 
+-- ---- freeze, thaw, die
+
+-- no present service has the name
+pub change_unnamed : (change : ServiceChange) (s : Situation) (service : List ℕ) → (Place (map seat_name s.parts.seats) service → ⊥) → StepOn s (event_of change service) (reply_text reply.ErrorName) s
+change_unnamed kind.Freeze s service none = (inr (none, (refl, refl)), inl refl)
+change_unnamed kind.Thaw s service none = (inr (none, (refl, refl)), inl refl)
+change_unnamed kind.Die s service none = (inr (none, (refl, refl)), inl refl)
+
+-- a request is open
+pub change_busy : (change : ServiceChange) (s : Situation) (service : List ℕ) (k : ℕ) → IsAt s service k → (s.phase ≡ Idle → ⊥) → StepOn s (event_of change service) (reply_text reply.ErrorBusy) s
+change_busy kind.Freeze s service k at busy = (inl ((k, at), inr (busy, (refl, refl))), inl refl)
+change_busy kind.Thaw s service k at busy = (inl ((k, at), inr (busy, (refl, refl))), inl refl)
+change_busy kind.Die s service k at busy = (inl ((k, at), inr (busy, (refl, refl))), inl refl)
+
 -- ---- join
 
 -- the step of a service that joins if there is room for it
-pub joins : (old new : Situation) (service behaviour state : List ℕ) (loose : Bool) (x : Joining) (text : List ℕ) → CanJoin old service behaviour state loose x → AddsService old x text new → StepOn old (join service behaviour state loose) text new
-joins old new service behaviour state loose x text can adds =
-    let named = subst (λ (seat : Seat). AddsService old (record { seat = seat; state = x.state }) text new) can.seat adds in
+pub joins : (old new : Situation) (words : JoinWords) (x : Joining) (text : List ℕ) → CanJoin old words x → Joins old x text new → StepOn old (join_of words) text new
+joins old new words x text can adds =
+    let named = subst (λ (seat : Seat). Joins old (record { seat = seat; state = x.state }) text new) can.seat adds in
     (inl (can.good, inl ((x.seat.behaviour, can.at), inl ((x.state, can.named), inl (can.idle, inr (can.free, named.0))))), named.1)
 
--- ---- questions
+-- ---- report and explain
 
 pub reports : (s : Situation) → IsSituation s → StepOn s report (report_text s.parts s.here) s
 reports s is = ((reports_both s (report_text s.parts s.here) is refl, refl), refl)

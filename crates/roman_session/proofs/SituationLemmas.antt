@@ -1,5 +1,5 @@
 -- What the fields of a session and the calls of its parts say of the situation.
-use Rattle.roman_session.proofs.Common.{◌≤◌, Vec, Global, vec_capacity, ◌≡◌, ℕ, ◌<◌, Bool, List, [], Option, Some, IfSome, IsTrue, map, length, slice_get, slice_set, slice_index, sym, ap, ◌∙◌, subst, arith, ◌↔◌, slice_index_or, MAX_SERVICES, number, sizes_of, pair_at, has, Sys, Pair, IsPair, HasBits, get_or_from_slice_get, slice_get-map, length-map, get_or-set_same, both_ways, is_ready, outcomes, IsIn, is_related, offers, Great, related_great, great_related, offer_is, there_is, not_empty_in, ne_not_empty, by_test, outcome_seat, states_set, states_below, AreBelow-index, moved, NamedBeh, NamedSys, Seat, IsSeatBehaviour, seat_name, names_in, states_long, Situation, present_system, IsPhase, IsSituation, IsOpen, service_at, situation_in, IsSession, Phase, Idle, Offered, Delegated, Inside, option_map, seat_names, get_or, slice_get-get_or, beh_states, states_of_behaviour}
+use Rattle.roman_session.proofs.Common.{◌≤◌, Vec, Global, vec_capacity, ◌≡◌, ℕ, ◌<◌, Bool, List, [], Option, Some, IfSome, IsTrue, map, length, slice_get, slice_set, slice_index, sym, ap, ◌∙◌, subst, arith, ◌↔◌, slice_index_or, MAX_SERVICES, number, sizes_of, pair_at, has, Sys, Pair, IsPair, HasBits, get_or_from_slice_get, slice_get-map, length-map, get_or-set_same, both_ways, is_ready, outcomes, IsIn, is_related, offers, Great, related_great, great_related, offer_is, there_is, not_empty_in, ne_not_empty, by_test, outcome_seat, states_set, states_below, AreBelow-index, moved, NamedBeh, NamedSys, Seat, seat_name, states_long, Situation, present_system, IsPhase, IsSituation, IsOpen, service_at, situation_in, IsSession, Phase, Idle, Offered, Delegated, Inside, option_map, get_or, slice_get-get_or, beh_states, states_of_behaviour}
 use Rattle.roman_model.specs.System.{Seat as Seat'}
 use Rattle.roman_joint.specs.NamedSys as joint
 
@@ -47,10 +47,6 @@ moved_within s p t e k b is ok l =
 -- the item of a mapped list at a place
 pub mapped_at : {X Y : Type 0} (f : X → Y) (xs : List X) (k : ℕ) (x : X) (d : Y) → slice_get xs k ≡ Some x → slice_index_or (map f xs) k d ≡ f x
 mapped_at f xs k x d h = get_or_from_slice_get (map f xs) k (f x) d (slice_get-map f xs k ∙ ap (option_map f) h)
-
--- the names of a service's states are those of its behaviour
-pub states_named : (n : NamedSys) (k : ℕ) (beh : NamedBeh) → IsSeatBehaviour n k beh → (seat_names (names_in n) k).states ≡ beh.states
-states_named n k beh of = grind (arith, mapped_at)
 
 -- the names of the states of a behaviour of the catalogue
 pub behaviour_states : (s : Situation) (behs : List NamedBeh) (i : ℕ) (beh : NamedBeh) → behs ≡ s.parts.catalogue → i < length behs → beh ≡ get_or behs i beh → beh.states ≡ states_of_behaviour s.parts.catalogue i

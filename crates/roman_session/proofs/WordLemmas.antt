@@ -1,5 +1,5 @@
 -- Offers, counts and reports are right by the greatest ND-simulation.
-use Rattle.roman_session.proofs.Common.{◌≡◌, ℕ, ◌+◌, Bool, List, [], ◌++◌, map, length, cond, true, false, IsTrue, ◌↔◌, refl, sym, ◌∙◌, length-append, arith, both_ways, length-map, IsIn, below, IsSublist, Sys, Pair, IsSys, IsPair, arena, is_allowed, Entry, IsComplete, Great, is_related, offers, related_count, filter_sublist, filter_in, in_filter, in_below, allowed_in, from_allowed, related_great, great_related, in_listed, listed_in, from_map, system_is_same, sublist_none, HasNoRepeats-filter, allowed_in_range, from_pairs, in_pairs, pairs_once, length-pairs, offers_are, order_new, new_once, in_map, system_of, Situation, IsSituation, report_text, shown, State, IsGreat, MayAsk, start_state, afresh, Counts, flat_map, AreServing, ReportsGreat}
+use Rattle.roman_session.proofs.Common.{◌≡◌, ℕ, ◌+◌, Bool, List, [], ◌++◌, map, length, cond, true, false, IsTrue, ◌↔◌, refl, sym, ◌∙◌, length-append, arith, both_ways, length-map, IsIn, below, IsSublist, Sys, Pair, IsSys, IsPair, arena, is_allowed, Entry, IsComplete, Great, is_related, offers, related_count, filter_sublist, filter_in, in_filter, in_below, allowed_in, from_allowed, related_great, great_related, in_listed, listed_in, from_map, system_is_same, sublist_none, allowed_in_range, length-pairs, offers_are, order_new, new_once, in_map, system_of, Situation, IsSituation, report_text, shown, State, IsGreat, MayRequest, start_state, afresh, Counts, flat_map, AreServing, ReportsGreat, related_counted}
 use Rattle.std.specs.List.{filter}
 use Rattle.roman_session.proofs.ReportLemmas.{reports_afresh, afresh_known}
 
@@ -30,10 +30,6 @@ lost_counted s kept added complete =
       count = length-map L (λ (x : Entry Pair). x.node) ∙ length-append kept added;
     }
 
--- the count of related pairs is their number
-related_counted : (s : Sys) → IsSys s → Counts s (Great s) (related_count s)
-related_counted s sys = grind (arith, HasNoRepeats-filter, filter_in, from_pairs, great_related, in_filter, in_pairs, pairs_once, related_great)
-
 -- reports
 
 -- a flat map over a list or over none
@@ -45,7 +41,7 @@ picked_lines false f xs = refl
 actions_offered : State → Bool → List ℕ
 actions_offered s b = cond b (filter (is_allowed (system_of s.parts) s.here) (below s.parts.environment.env.actions)) []
 
-actions_are : (s : State) (b : Bool) (a : ℕ) → b ≡ is_related (system_of s.parts) s.here → IsSys (system_of s.parts) → IsPair (system_of s.parts) s.here → IsIn a (actions_offered s b) ↔ (IsGreat s × MayAsk s a)
+actions_are : (s : State) (b : Bool) (a : ℕ) → b ≡ is_related (system_of s.parts) s.here → IsSys (system_of s.parts) → IsPair (system_of s.parts) s.here → IsIn a (actions_offered s b) ↔ (IsGreat s × MayRequest s a)
 unfolding actions_offered
 actions_are s true a eb sys pair = (
   λ i.

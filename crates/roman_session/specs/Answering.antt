@@ -3,10 +3,10 @@ use Rattle.std.specs.Prelude.{◌≡◌, ◌≢◌, ℕ, List, [], ◌++◌, Opt
 use Rattle.roman_model.specs.Offers.{offers}
 use Rattle.roman_io.specs.Sink.{Puts}
 use Rattle.roman_text.specs.Pages.{Gathers}
-use Rattle.roman_text.specs.Shapes.{LineShape, saw, shape_of}
+use Rattle.roman_text.specs.Shapes.{LineShape, observe, shape_of}
 use Rattle.roman_text.specs.declared.errors.LineError.{LineError}
 use Rattle.roman_session.specs.Situations.{Situation, present_system}
-use Rattle.roman_session.specs.States.{IsGreat, MayAsk}
+use Rattle.roman_session.specs.States.{IsGreat, MayRequest}
 use Rattle.roman_session.specs.Steps.{Step, StepOn, shown, is_quit}
 use Rattle.roman_session.specs.declared.phase.Phase.TheVariants.{Delegated}
 use Rattle.roman_session.specs.declared.next.Next.{Next}
@@ -34,11 +34,11 @@ pub record DoneOn {T E : Type 0} (old : Situation) (shape : LineShape) (new : Si
 
 -- at least one service is offered for each action that the target allows at a related pair
 abbrev pub NamesSome : Situation → Type 0
-NamesSome old = (a : ℕ) → IsGreat (shown old) → MayAsk (shown old) a → offers (present_system old) old.here a ≢ []
+NamesSome old = (a : ℕ) → IsGreat (shown old) → MayRequest (shown old) a → offers (present_system old) old.here a ≢ []
 
--- after an outcome of a delegated request is seen, the new pair is related
-abbrev pub SeenStaysGreat : Situation → List ℕ → Situation → Type 0
-SeenStaysGreat old line new = (state env : List ℕ) (a k : ℕ) → shape_of line ≡ Ok (saw state env) → old.phase ≡ Delegated a k → IsGreat (shown new)
+-- after an outcome of a delegated request is observed, the new pair is related
+abbrev pub ObservedStaysGreat : Situation → List ℕ → Situation → Type 0
+ObservedStaysGreat old line new = (state env : List ℕ) (a k : ℕ) → shape_of line ≡ Ok (observe state env) → old.phase ≡ Delegated a k → IsGreat (shown new)
 
 -- whether a session goes on after an event: it ends exactly at `quit`
 abbrev pub next_after : Result LineShape LineError → Next

@@ -7,6 +7,7 @@ pub mod Words
 pub mod Afresh
 pub mod Turns
 pub mod Steps
+pub mod Changes
 pub mod Rules
 pub mod Starts
 pub mod Layout

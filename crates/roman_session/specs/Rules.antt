@@ -6,20 +6,23 @@ use Rattle.roman_model.specs.Explanation.{seat_names}
 use Rattle.roman_model.specs.declared.limits.TheConstants.{MAX_SERVICES}
 use Rattle.roman_read.specs.Names.{is_name}
 use Rattle.roman_text.specs.Replies.{reply_text}
-use Rattle.roman_text.specs.Shapes.{LineShape}
+use Rattle.roman_text.specs.Shapes.{LineShape, join}
 use Rattle.roman_text.specs.declared.replies.Reply.{Reply}
 use Rattle.roman_text.specs.declared.replies.Reply.TheVariants as reply
 use Rattle.roman_joint.specs.NamedSys.{NamedSys, beh_at, system_of, seat_of, cells}
 use Rattle.roman_joint.specs.Names.{seat_name, beh_name, states_of_behaviour, names_in}
 use Rattle.roman_joint.specs.declared.seat.Seat.{Seat}
-use Rattle.roman_generator.specs.declared.sight.Sight.{Sight}
-use Rattle.roman_session.specs.declared.events.Handing.{Handing}
+use Rattle.roman_generator.specs.declared.observation.Observation.{Observation}
+use Rattle.roman_session.specs.declared.events.Delegation.{Delegation}
+use Rattle.roman_session.specs.declared.events.JoinWords.{JoinWords}
 use Rattle.roman_session.specs.declared.events.Joining.{Joining}
 use Rattle.roman_session.specs.declared.events.Jump.{Jump}
+use Rattle.roman_session.specs.declared.events.ServiceChange.{ServiceChange}
 use Rattle.roman_session.specs.declared.phase.Phase.TheVariants.{Idle, Offered, Delegated}
+use Rattle.roman_session.specs.Changes.{Suits}
 use Rattle.roman_session.specs.Situations.{Situation}
-use Rattle.roman_session.specs.States.{State, IsGreat, MayAsk, ServesHere}
-use Rattle.roman_session.specs.Words.{CountsLost, IsReady}
+use Rattle.roman_session.specs.States.{State, IsGreat, MayRequest, ServesHere}
+use Rattle.roman_session.specs.Words.{CountsLost}
 use Rattle.roman_session.specs.Turns.{Needs, Place, Refuses, with_services}
 use Rattle.roman_session.specs.Steps.{StepOn, IsAt, IsRepair, shown}
 
@@ -43,17 +46,17 @@ pub record CanRequest (s : Situation) (action : List ℕ) (a : ℕ) : Type 0 whe
   pub at : slice_get s.parts.environment.actions a ≡ Some action
   pub idle : s.phase ≡ Idle
   pub great : IsGreat (shown s)
-  pub may : MayAsk (shown s) a
+  pub may : MayRequest (shown s) a
 
 -- use: the service can be given the requested action
-pub record CanHand (s : Situation) (service : List ℕ) (x : Handing) : Type 0 where
+pub record CanDelegate (s : Situation) (service : List ℕ) (x : Delegation) : Type 0 where
   pub at : IsAt s service x.seat
-  pub asked : s.phase ≡ Offered x.action
+  pub requested : s.phase ≡ Offered x.action
   pub serves : ServesHere (shown s) x.action x.seat
 
 -- saw: these states of the delegate and of the environment can be judged
-pub record CanSee (s : Situation) (state env : List ℕ) (x : Sight) : Type 0 where
-  pub handed : s.phase ≡ Delegated x.action x.seat
+pub record CanObserve (s : Situation) (state env : List ℕ) (x : Observation) : Type 0 where
+  pub delegated : s.phase ≡ Delegated x.action x.seat
   pub at : slice_get (seat_names (names_in s.parts) x.seat).states x.state ≡ Some state
   pub named : slice_get s.parts.environment.states x.env ≡ Some env
 
@@ -68,31 +71,24 @@ pub record CanJumpEnv (s : Situation) (env : List ℕ) (e : ℕ) : Type 0 where
   pub named : slice_get s.parts.environment.states e ≡ Some env
   pub idle : s.phase ≡ Idle
 
--- freeze: the service can be frozen
-pub record CanFreeze (s : Situation) (service : List ℕ) (k : ℕ) : Type 0 where
+-- freeze, thaw, die: the service can be changed
+pub record CanChangeService (change : ServiceChange) (s : Situation) (service : List ℕ) (k : ℕ) : Type 0 where
   pub at : IsAt s service k
   pub idle : s.phase ≡ Idle
-  pub ready : IsReady (shown s) k
+  pub suits : Suits change (shown s) k
 
--- thaw: the service can be made ready
-pub record CanThaw (s : Situation) (service : List ℕ) (k : ℕ) : Type 0 where
-  pub at : IsAt s service k
-  pub idle : s.phase ≡ Idle
-  pub frozen : IsReady (shown s) k → ⊥
-
--- die: the service can be removed
-pub record CanDie (s : Situation) (service : List ℕ) (k : ℕ) : Type 0 where
-  pub at : IsAt s service k
-  pub idle : s.phase ≡ Idle
+-- the event of the words of a `join`
+abbrev pub join_of : JoinWords → LineShape
+join_of words = join words.service.now words.behaviour.now words.state.now words.loose
 
 -- join: the service can be added, if there is room for it
-pub record CanJoin (s : Situation) (service behaviour state : List ℕ) (loose : Bool) (x : Joining) : Type 0 where
-  pub good : IsTrue (is_name service)
-  pub at : slice_get (map beh_name s.parts.catalogue) x.seat.behaviour ≡ Some behaviour
-  pub named : slice_get (states_of_behaviour s.parts.catalogue x.seat.behaviour) x.state ≡ Some state
+pub record CanJoin (s : Situation) (words : JoinWords) (x : Joining) : Type 0 where
+  pub good : IsTrue (is_name words.service.now)
+  pub at : slice_get (map beh_name s.parts.catalogue) x.seat.behaviour ≡ Some words.behaviour.now
+  pub named : slice_get (states_of_behaviour s.parts.catalogue x.seat.behaviour) x.state ≡ Some words.state.now
   pub idle : s.phase ≡ Idle
-  pub free : IsIn service (map seat_name s.parts.seats) → ⊥
-  pub seat : x.seat ≡ record { name = service; behaviour = x.seat.behaviour; frozen = false; rests = not loose }
+  pub free : IsIn words.service.now (map seat_name s.parts.seats) → ⊥
+  pub seat : x.seat ≡ record { name = words.service.now; behaviour = x.seat.behaviour; frozen = false; rests = not words.loose }
 
 -- a ready service with a new name, a behaviour of the catalogue, and one of the behaviour's states
 pub record IsNewcomer (parts : NamedSys) (x : Joining) : Type 0 where
@@ -106,8 +102,8 @@ abbrev pub with_service : State → Joining → State
 with_service s x = with_services s (s.parts.seats ++ x.seat ∷ []) (s.here.bs ++ x.state ∷ [])
 
 -- the service is refused if there are too many services or cells; otherwise it joins, and the list is repaired
-abbrev pub AddsService : Situation → Joining → List ℕ → Situation → Type 0
-AddsService old x text new =
+abbrev pub Joins : Situation → Joining → List ℕ → Situation → Type 0
+Joins old x text new =
     (Needs (length old.parts.seats < MAX_SERVICES) (Refuses (shown old) text (shown new) reply.ErrorFull) (λ few.
     Needs (cells (system_of (with_service (shown old) x).parts) ≤ old.parts.limit) (Refuses (shown old) text (shown new) reply.ErrorLimit) (λ fits.
     CountsLost (with_service (shown old) x) text × (shown new ≡ with_service (shown old) x))))

@@ -25,8 +25,8 @@ abbrev pub IsGreat : State → Type 0
 IsGreat s = Great (system_of s.parts) s.here
 
 -- the target allows the action at the current pair
-abbrev pub MayAsk : State → ℕ → Type 0
-MayAsk s a = Allows (system_of s.parts) s.here.t s.here.e a
+abbrev pub MayRequest : State → ℕ → Type 0
+MayRequest s a = Allows (system_of s.parts) s.here.t s.here.e a
 
 -- the service at place k serves the action: it can answer each of the target's steps, and all its outcomes are related pairs
 abbrev pub ServesHere : State → ℕ → ℕ → Type 0
@@ -35,13 +35,13 @@ ServesHere s a k = Serves (system_of s.parts) (GreatCouple (system_of s.parts)) 
 -- an open request can be served, and its delegate is a service that serves it
 abbrev pub IsOpenGreat : State → Phase → Type 0
 IsOpenGreat s Idle = Unit {0}
-IsOpenGreat s (Offered a) = IsGreat s × MayAsk s a
-IsOpenGreat s (Delegated a k) = IsGreat s × MayAsk s a × ServesHere s a k
+IsOpenGreat s (Offered a) = IsGreat s × MayRequest s a
+IsOpenGreat s (Delegated a k) = IsGreat s × MayRequest s a × ServesHere s a k
 
 -- all parts but the services are the library's; no two services share a name; the pair is one of the system's; an open request can be served
 pub record IsState (library : PlainLibrary) (s : State) : Type 0 where
   pub parts : s.parts ≡ record (parts_of library) { seats = s.parts.seats }
   pub names : HasNoRepeats (map seat_name s.parts.seats)
   pub here : IsPair (system_of s.parts) s.here
-  pub asked : (a : ℕ) → s.phase ≡ Offered a → IsGreat s × MayAsk s a
-  pub handed : (a k : ℕ) → s.phase ≡ Delegated a k → IsGreat s × MayAsk s a × ServesHere s a k
+  pub requested : (a : ℕ) → s.phase ≡ Offered a → IsGreat s × MayRequest s a
+  pub delegated : (a k : ℕ) → s.phase ≡ Delegated a k → IsGreat s × MayRequest s a × ServesHere s a k

@@ -5,7 +5,7 @@ use Rattle.roman_model.specs.System.{Pair}
 use Rattle.roman_model.specs.Arena.{Entry, replay}
 use Rattle.roman_model.specs.SystemArena.{arena}
 use Rattle.roman_model.specs.CompleteLists.{IsComplete}
-use Rattle.roman_model.specs.Change.{Change, Freeze, Thaw, Join, Die, rename}
+use Rattle.roman_model.specs.Change.{Change, Join, rename}
 use Rattle.roman_model.specs.Explanation.{explain_text}
 use Rattle.roman_text.specs.Shapes.{LineShape, freeze, thaw, die, join, explain, quit, shape_of}
 use Rattle.roman_text.specs.declared.errors.LineError.{LineError}
@@ -16,7 +16,9 @@ use Rattle.roman_joint.specs.Names.{seat_name, names_in}
 use Rattle.roman_session.specs.Situations.{Situation, present_system}
 use Rattle.roman_session.specs.States.{State, IsGreat}
 use Rattle.roman_session.specs.Words.{Replies}
+use Rattle.roman_session.specs.Changes.{change_at}
 use Rattle.roman_session.specs.Turns.{TurnsInto}
+use Rattle.roman_session.specs.declared.events.ServiceChange.TheVariants as kind
 
 -- the state of a situation: all but its removal list
 abbrev pub shown : Situation → State
@@ -38,13 +40,17 @@ pub record IsRepair (old : Situation) (change : Change) (text : List ℕ) (new :
 abbrev pub IsAt : Situation → List ℕ → ℕ → Type 0
 IsAt s service k = slice_get (map seat_name s.parts.seats) k ≡ Some service
 
+-- the event is refused, or the list is repaired after the change of the service of that name, with its place and its seat
+abbrev pub RepairsList : Situation → List ℕ → (ℕ → model.Seat → Change) → List ℕ → Situation → Type 0
+RepairsList old service change text new =
+    (new ≡ old) ⊎ ((k : ℕ) × IsAt old service k × ((seat : model.Seat) × (slice_get (present_system old).seats k ≡ Some seat) × IsRepair old (change k seat) text new))
+
 -- what an event does with the removal list: a change of the services repairs it, unless it is refused; an explanation gives the part
 -- of it on which the current pair's entry rests; every other event leaves it
 abbrev pub ListAfter : Situation → Result LineShape LineError → List ℕ → Situation → Type 0
-ListAfter old (Ok (freeze service)) text new = (new ≡ old) ⊎ ((k : ℕ) × IsAt old service k × IsRepair old (Freeze k) text new)
-ListAfter old (Ok (thaw service)) text new = (new ≡ old) ⊎ ((k : ℕ) × IsAt old service k × IsRepair old (Thaw k) text new)
-ListAfter old (Ok (die service)) text new =
-    (new ≡ old) ⊎ ((k : ℕ) × IsAt old service k × ((seat : model.Seat) × (slice_get (present_system old).seats k ≡ Some seat) × IsRepair old (Die k seat) text new))
+ListAfter old (Ok (freeze service)) text new = RepairsList old service (change_at kind.Freeze) text new
+ListAfter old (Ok (thaw service)) text new = RepairsList old service (change_at kind.Thaw) text new
+ListAfter old (Ok (die service)) text new = RepairsList old service (change_at kind.Die) text new
 ListAfter old (Ok (join service behaviour state loose)) text new =
     (new ≡ old) ⊎ ((seat : Seat) × (new.parts.seats ≡ old.parts.seats ++ seat ∷ []) × IsRepair old (Join (seat_of old.parts.catalogue seat)) text new)
 ListAfter old (Ok explain) text new =

@@ -6,7 +6,7 @@ use Rattle.roman_model.specs.System.{TStep, SStep}
 use Rattle.roman_model.specs.Explanation.{name_at, seat_names}
 use Rattle.roman_model.specs.declared.limits.TheConstants.{MAX_SERVICES}
 use Rattle.roman_read.specs.Names.{is_name}
-use Rattle.roman_text.specs.Shapes.{LineShape, nothing, ask, hand, saw, abort, freeze, thaw, die, join, jump, jump_env, report, explain, quit}
+use Rattle.roman_text.specs.Shapes.{LineShape, nothing, request, delegate, observe, abort, freeze, thaw, die, join, jump, jump_env, report, explain, quit}
 use Rattle.roman_text.specs.declared.errors.LineError.{LineError}
 use Rattle.roman_text.specs.declared.replies.Reply.{Reply}
 use Rattle.roman_text.specs.declared.replies.Reply.TheVariants as reply
@@ -15,7 +15,7 @@ use Rattle.roman_joint.specs.Changes.{with_frozen}
 use Rattle.roman_joint.specs.Names.{seat_name, beh_name, states_of_behaviour, names_in}
 use Rattle.roman_joint.specs.declared.seat.Seat.{Seat}
 use Rattle.roman_session.specs.declared.phase.Phase.TheVariants.{Idle, Offered, Delegated}
-use Rattle.roman_session.specs.States.{State, start_state, IsGreat, MayAsk, ServesHere}
+use Rattle.roman_session.specs.States.{State, start_state, IsGreat, MayRequest, ServesHere}
 use Rattle.roman_session.specs.Afresh.{afresh}
 use Rattle.roman_session.specs.Words.{Replies, OffersServing, CountsLost, ReportsGreat, IsReady, Refutes}
 
@@ -44,19 +44,19 @@ with_services s seats bs = record { parts = record s.parts { seats = seats }; he
 abbrev pub ComesTo : State → Result LineShape LineError → (Reply → Type 0) → (State → (List ℕ → Type 0) → Type 0) → Type 0
 ComesTo s (Err why) Refused Leads = Refused reply.ErrorLine
 ComesTo s (Ok nothing) Refused Leads = Leads s (λ text. text ≡ [])
-ComesTo s (Ok (ask action)) Refused Leads =
+ComesTo s (Ok (request action)) Refused Leads =
     Needs (Place s.parts.environment.actions action) (Refused reply.ErrorName) (λ (a, there).
     Needs (s.phase ≡ Idle) (Refused reply.ErrorBusy) (λ idle.
     Needs (IsGreat s) (Refused reply.NoComposition) (λ great.
-    Needs (MayAsk s a) (Refused reply.NotAllowed) (λ may.
+    Needs (MayRequest s a) (Refused reply.NotAllowed) (λ may.
     Leads (record s { phase = Offered a }) (OffersServing s a)))))
-ComesTo s (Ok (hand service)) Refused Leads =
+ComesTo s (Ok (delegate service)) Refused Leads =
     Needs (Place (map seat_name s.parts.seats) service) (Refused reply.ErrorName) (λ (k, there).
-    Needs ((a : ℕ) × (s.phase ≡ Offered a)) (Refused reply.ErrorIdle) (λ (a, asked).
+    Needs ((a : ℕ) × (s.phase ≡ Offered a)) (Refused reply.ErrorIdle) (λ (a, requested).
     Needs (ServesHere s a k) (Refused reply.NotOffered) (λ serves.
     Leads (record s { phase = Delegated a k }) (Replies (reply.Using service)))))
-ComesTo s (Ok (saw state env)) Refused Leads =
-    Needs ((a : ℕ) × (k : ℕ) × (s.phase ≡ Delegated a k)) (Refused reply.ErrorIdle) (λ (a, k, handed).
+ComesTo s (Ok (observe state env)) Refused Leads =
+    Needs ((a : ℕ) × (k : ℕ) × (s.phase ≡ Delegated a k)) (Refused reply.ErrorIdle) (λ (a, k, delegated).
     Needs (Place (seat_names (names_in s.parts) k).states state) (Refused reply.ErrorName) (λ (b, there).
     Needs (Place s.parts.environment.states env) (Refused reply.ErrorName) (λ (e, named).
     Needs (SStep (system_of s.parts) s.here.bs s.here.e a k (slice_set s.here.bs k b) e) (Refused reply.Impossible) (λ possible.

@@ -18,7 +18,7 @@ use Rattle.roman_text.specs.declared.report.ReportLine.TheVariants as line
 use Rattle.roman_joint.specs.NamedSys.{system_of}
 use Rattle.roman_joint.specs.Names.{seat_name, names_in}
 use Rattle.roman_session.specs.Reports.{lines_text, service_lines}
-use Rattle.roman_session.specs.States.{State, IsGreat, MayAsk, ServesHere}
+use Rattle.roman_session.specs.States.{State, IsGreat, MayRequest, ServesHere}
 use Rattle.roman_session.specs.Refutations.{AreLost, WinsBy}
 
 -- the text is that reply
@@ -58,7 +58,7 @@ pub record ReportsGreat (s : State) (text : List ℕ) : Type 0 where
   pub great : IsTrue composes ↔ IsGreat s
   pub actions : List ℕ
   pub order : IsSublist actions (below s.parts.environment.env.actions)
-  pub allowed : (a : ℕ) → IsIn a actions ↔ (IsGreat s × MayAsk s a)
+  pub allowed : (a : ℕ) → IsIn a actions ↔ (IsGreat s × MayRequest s a)
   pub services : ℕ → List ℕ
   pub serving : (a : ℕ) → IsIn a actions → AreServing s a (services a)
   pub says : text ≡ lines_text (

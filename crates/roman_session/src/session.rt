@@ -157,7 +157,8 @@ impl Session {
     pub fn state(&self, k: u8) -> u8
         requires { k < length self.now.parts.seats }
         ensures value { result ≡ slice_index self.now.here.bs k }
-        ensures within { (seat : model.Seat) → slice_get (present_system self.now).seats k ≡ Some seat → result < seat.beh.states }
+        ensures within { (seat : model.Seat) → slice_get (present_system self.now).seats k ≡ Some seat →
+            result < seat.beh.states }
     {
         self.states[k as usize]
     }
@@ -197,7 +198,7 @@ impl Session {
     /// Returns whether the service at place `k` is offered for the requested action `a`: whether it
     /// serves the action.
     fn is_offered(&self, a: u8, k: u8) -> bool
-        requires asked { self.now.phase ≡ Phase.Offered a }
+        requires requested { self.now.phase ≡ Phase.Offered a }
         requires seat { k < length self.now.parts.seats }
         ensures { Tests result (ServesHere (shown self.now) a k) }
     {

@@ -1,3 +1,5 @@
 pub mod Common
 pub mod StartLemmas
+pub mod DigitLemmas
+pub mod ExtentLemmas
 pub mod CallerLemmas

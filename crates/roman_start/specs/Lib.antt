@@ -1,2 +1,4 @@
 pub mod Starts
 pub mod Seating
+pub mod Extents
+pub mod Digits

@@ -1,5 +1,5 @@
 -- What the proof pages of this crate cite from elsewhere, passed on from one place. Declares nothing.
-pub use Rattle.std.proofs.Common.{Bool, Err, List, None, Ok, Option, Result, Some, [], ap, append_assoc, ap₂, arith, codes, cond, drop, drop-cons, false, filter, get_or, inl, inr, length, length-drop, length-take-le, map, min, nat_eq, not, refl, subst, suc, sym, take, take-add, true, unwrap_or, w8, zero, ℕ, ◌&&◌, ◌++◌, ◌+◌, ◌-◌, ◌<◌, ◌==◌, ◌||◌, ◌∙◌, ◌∷◌, ◌≡◌, ◌≢◌, ◌≤◌}
+pub use Rattle.std.proofs.Common.{Bool, Err, IsErrAnd, List, None, Ok, Option, Result, Some, [], ap, append_assoc, ap₂, arith, codes, cond, drop, drop-cons, false, filter, get_or, inl, inr, length, length-drop, length-take-le, map, min, nat_eq, not, refl, subst, suc, sym, take, take-add, true, unwrap_or, w8, zero, ℕ, ◌&&◌, ◌++◌, ◌+◌, ◌-◌, ◌<◌, ◌==◌, ◌||◌, ◌∙◌, ◌∷◌, ◌≡◌, ◌≢◌, ◌≤◌}
 pub use Rattle.std.proofs.Math.Dec.{ltb}
 pub use Rattle.std.proofs.lemmas.Bool.{both_ways, cond-true, lt-ltb, or_from}
 pub use Rattle.std.proofs.lemmas.Bool.Decides.{nat_tests}
@@ -25,7 +25,7 @@ pub use lib.Lanes.{chunk, mask_l}
 pub use Rattle.roman_text.specs.Lines.{IsSplit, is_newline}
 unfoldable pub use Rattle.roman_text.specs.Lines.{kept, unfinished}
 pub use Rattle.roman_text.specs.Pages.{Gathered, Gathers}
-pub use Rattle.roman_text.specs.Shapes.{LineShape, abort, ask, by_words, die, explain, freeze, hand, has_bytes, is_blank, is_comment, is_part, join, jump, jump_env, nothing, quit, report, saw, shape_of_words, spelling, thaw, with_four}
+pub use Rattle.roman_text.specs.Shapes.{LineShape, abort, by_words, delegate, die, explain, freeze, has_bytes, is_blank, is_comment, is_part, join, jump, jump_env, nothing, observe, quit, report, request, shape_of_words, spelling, thaw, with_four}
 unfoldable pub use Rattle.roman_text.specs.Shapes.{shape_of, words_of}
 pub use Rattle.roman_text.specs.declared.errors.LineError.{LineError}
 pub use Rattle.roman_text.specs.declared.errors.LineError.TheVariants.{Form, TooLong}

@@ -1,5 +1,5 @@
 -- A page that is being filled: what it has taken so far, and what is left of a whole text.
-use Rattle.roman_text.proofs.Common.{◌≡◌, ℕ, List, [], ◌++◌, Option, Result, Ok, Err, refl, sym, ap, ◌∙◌, subst, append_assoc, append-nil, WrotePrefix, Puts, Wrote-nil, WrotePrefix-append, Gathered, Gathers}
+use Rattle.roman_text.proofs.Common.{◌≡◌, ℕ, List, [], ◌++◌, Option, Result, Ok, Err, IsErrAnd, refl, sym, ap, ◌∙◌, subst, append_assoc, append-nil, WrotePrefix, Puts, Wrote-nil, WrotePrefix-append, Gathered, Gathers}
 use Rattle.roman_text.proofs.PageLemmas.{Gathered-then, WrotePrefix-gathered, Puts-after_Gathered}
 
 -- the page has taken a text, which together with the rest is the whole text
@@ -33,6 +33,12 @@ fill_more old mid new held after piece rest all f g = record {
 pub fill_failed : (old mid new : Option (List ℕ)) (held piece rest all : List ℕ) → IsFilling old mid held (piece ++ rest) all → WrotePrefix mid new (held ++ piece) → WrotePrefix old new all
 fill_failed old mid new held piece rest all f w =
     subst (WrotePrefix old new) (append_assoc f.text piece rest ∙ f.left) (WrotePrefix-append _ _ _ _ (WrotePrefix-gathered _ _ _ _ _ _ f.gathered w))
+
+-- so it fails as a whole
+pub fill_stops : {T E : Type 0} (Q : E → Type 0) (old mid new : Option (List ℕ)) (held after piece rest all : List ℕ) (result : Result T E) → IsErrAnd result Q → IsFilling old mid held (piece ++ rest) all →
+    WrotePrefix mid new (held ++ piece) × (after ≡ []) → Gathers old new after all result
+fill_stops Q old mid new held after piece rest all (Ok x) err f stops = absurd err
+fill_stops Q old mid new held after piece rest all (Err e) err f (wrote, empty) = (fill_failed old mid new held piece rest all f wrote, empty)
 
 -- the rest may be replaced by an equal text
 pub fill_same : (old now : Option (List ℕ)) (held rest other all : List ℕ) → rest ≡ other → IsFilling old now held rest all → IsFilling old now held other all

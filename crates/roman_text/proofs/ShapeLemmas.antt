@@ -1,5 +1,5 @@
 -- The shape of a line, from its words.
-use Rattle.roman_text.proofs.Common.{Bool, Err, List, Ok, Result, [], ap, arith, codes, cond, false, length, refl, sym, true, ℕ, ◌&&◌, ◌<◌, ◌∙◌, ◌∷◌, ◌≡◌, ◌≤◌, Form, TooLong, LineError, LineShape, abort, ask, by_words, die, explain, freeze, hand, is_comment, join, jump, jump_env, nothing, quit, report, saw, shape_of, shape_of_words, spelling, thaw, with_four, words_of, by_test, bytes_eq, bytes_eq-Decides, kept, le-ltb, ltb, strip_carriage_return}
+use Rattle.roman_text.proofs.Common.{Bool, Err, List, Ok, Result, [], ap, arith, codes, cond, false, length, refl, sym, true, ℕ, ◌&&◌, ◌<◌, ◌∙◌, ◌∷◌, ◌≡◌, ◌≤◌, Form, TooLong, LineError, LineShape, abort, request, by_words, die, explain, freeze, delegate, is_comment, join, jump, jump_env, nothing, quit, report, observe, shape_of, shape_of_words, spelling, thaw, with_four, words_of, by_test, bytes_eq, bytes_eq-Decides, kept, le-ltb, ltb, strip_carriage_return}
 use borrow.Author.Tests.{lt-ltb}
 use Rattle.roman_text.proofs.LineLemmas.{kept-short, length-kept}
 
@@ -75,9 +75,9 @@ spelled_four w a b c d e h = grind (arith, bytes_eq-Decides, four_step)
 spelled_words : (w : List ℕ) (more : List (List ℕ)) (e : LineShape) → by_words w more ≡ Ok e → w ∷ more ≡ spelling e
 spelled_words w [] e h = spelled [] ((codes "abort", abort) ∷ (codes "report", report) ∷ (codes "explain", explain) ∷ (codes "quit", quit) ∷ []) w e (refl, (refl, (refl, (refl, tt)))) h
 spelled_words w (a ∷ []) e h =
-    let keys = (codes "do", ask a) ∷ (codes "use", hand a) ∷ (codes "freeze", freeze a) ∷ (codes "thaw", thaw a) ∷ (codes "die", die a) ∷ (codes "jumpenv", jump_env a) ∷ [] in
+    let keys = (codes "do", request a) ∷ (codes "use", delegate a) ∷ (codes "freeze", freeze a) ∷ (codes "thaw", thaw a) ∷ (codes "die", die a) ∷ (codes "jumpenv", jump_env a) ∷ [] in
     spelled (a ∷ []) keys w e (refl, (refl, (refl, (refl, (refl, (refl, tt)))))) h
-spelled_words w (a ∷ b ∷ []) e h = spelled (a ∷ b ∷ []) ((codes "saw", saw a b) ∷ (codes "jump", jump a b) ∷ []) w e (refl, (refl, tt)) h
+spelled_words w (a ∷ b ∷ []) e h = spelled (a ∷ b ∷ []) ((codes "saw", observe a b) ∷ (codes "jump", jump a b) ∷ []) w e (refl, (refl, tt)) h
 spelled_words w (a ∷ b ∷ c ∷ []) e h = spelled (a ∷ b ∷ c ∷ []) ((codes "join", join a b c false) ∷ []) w e (refl, tt) h
 spelled_words w (a ∷ b ∷ c ∷ d ∷ []) e h = spelled_four w a b c d e h
 spelled_words w (a ∷ b ∷ c ∷ d ∷ x ∷ more) e h = no_event e h

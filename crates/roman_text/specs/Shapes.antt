@@ -12,9 +12,9 @@ use Rattle.roman_text.specs.declared.events.Event.TheVariants as event
 -- an event, with its words as bytes
 pub data LineShape : Type 0 where
   nothing : LineShape
-  ask : (action : List ℕ) → LineShape
-  hand : (service : List ℕ) → LineShape
-  saw : (state env : List ℕ) → LineShape
+  request : (action : List ℕ) → LineShape
+  delegate : (service : List ℕ) → LineShape
+  observe : (state env : List ℕ) → LineShape
   abort : LineShape
   freeze : (service : List ℕ) → LineShape
   thaw : (service : List ℕ) → LineShape
@@ -59,8 +59,8 @@ alone word =
 -- the event of a line of two words
 abbrev pub with_one : List ℕ → List ℕ → Result LineShape LineError
 with_one word a =
-    if bytes_eq word (codes "do") then Ok (ask a)
-    else if bytes_eq word (codes "use") then Ok (hand a)
+    if bytes_eq word (codes "do") then Ok (request a)
+    else if bytes_eq word (codes "use") then Ok (delegate a)
     else if bytes_eq word (codes "freeze") then Ok (freeze a)
     else if bytes_eq word (codes "thaw") then Ok (thaw a)
     else if bytes_eq word (codes "die") then Ok (die a)
@@ -70,7 +70,7 @@ with_one word a =
 -- the event of a line of three words
 abbrev pub with_two : List ℕ → List ℕ → List ℕ → Result LineShape LineError
 with_two word a b =
-    if bytes_eq word (codes "saw") then Ok (saw a b)
+    if bytes_eq word (codes "saw") then Ok (observe a b)
     else if bytes_eq word (codes "jump") then Ok (jump a b)
     else Err Form
 
@@ -105,9 +105,9 @@ shape_of line =
 -- the words of an event's line
 abbrev pub spelling : LineShape → List (List ℕ)
 spelling nothing = []
-spelling (ask action) = codes "do" ∷ action ∷ []
-spelling (hand service) = codes "use" ∷ service ∷ []
-spelling (saw state env) = codes "saw" ∷ state ∷ env ∷ []
+spelling (request action) = codes "do" ∷ action ∷ []
+spelling (delegate service) = codes "use" ∷ service ∷ []
+spelling (observe state env) = codes "saw" ∷ state ∷ env ∷ []
 spelling abort = codes "abort" ∷ []
 spelling (freeze service) = codes "freeze" ∷ service ∷ []
 spelling (thaw service) = codes "thaw" ∷ service ∷ []
@@ -123,9 +123,9 @@ spelling quit = codes "quit" ∷ []
 -- the shape of a parsed event
 abbrev pub shape_of_event : Event → LineShape
 shape_of_event event.Nothing = nothing
-shape_of_event (event.Ask action) = ask action.now
-shape_of_event (event.Hand service) = hand service.now
-shape_of_event (event.Saw state env) = saw state.now env.now
+shape_of_event (event.Ask action) = request action.now
+shape_of_event (event.Hand service) = delegate service.now
+shape_of_event (event.Saw state env) = observe state.now env.now
 shape_of_event event.Abort = abort
 shape_of_event (event.Freeze service) = freeze service.now
 shape_of_event (event.Thaw service) = thaw service.now

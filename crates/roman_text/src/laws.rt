@@ -10,7 +10,8 @@ use crate::errors::LineError;
 /// don't depend on the pieces in which the bytes come.
 pub fn split_lines()
     ensures are { (bytes : List ℕ) → IsSplit bytes (ended_lines bytes) (unfinished bytes) }
-    ensures only { (bytes : List ℕ) (lines : List (List ℕ)) (rest : List ℕ) → IsSplit bytes lines rest → (lines ≡ ended_lines bytes) × (rest ≡ unfinished bytes) }
+    ensures only { (bytes : List ℕ) (lines : List (List ℕ)) (rest : List ℕ) → IsSplit bytes lines rest →
+        (lines ≡ ended_lines bytes) × (rest ≡ unfinished bytes) }
 {}
 
 /// The spelling of an event parses as that event, and no other words do. The exception is the event
@@ -19,8 +20,10 @@ pub fn split_lines()
 #[tactic(auto, using(crate::proofs::ShapeLemmas::spelling_only))]
 pub fn spell_events()
     ensures read { (event : LineShape) → shape_of_words (spelling event) ≡ Ok event }
-    ensures only { (words : List (List ℕ)) (event : LineShape) → shape_of_words words ≡ Ok event → event ≢ nothing → words ≡ spelling event }
-    ensures form { (words : List (List ℕ)) (event : LineShape) → shape_of_words words ≡ Err LineError.Form → words ≢ spelling event }
+    ensures only { (words : List (List ℕ)) (event : LineShape) → shape_of_words words ≡ Ok event → event ≢ nothing →
+        words ≡ spelling event }
+    ensures form { (words : List (List ℕ)) (event : LineShape) → shape_of_words words ≡ Err LineError.Form →
+        words ≢ spelling event }
 {}
 
 /// The part of a line that a splitter holds has the same shape as the whole line.

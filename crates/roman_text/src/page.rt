@@ -1,10 +1,9 @@
 //! Gathers output in a buffer of fixed size.
 ghost use Rattle.std.specs.Prelude.{◌≡◌, ◌+◌, ◌<◌, ◌≤◌, ◌∷◌, ◌++◌, [], length, take, decimal, OnOk};
-ghost use Rattle.roman_io.specs.Faults.{HasCause};
-ghost use Rattle.roman_io.specs.Sink.{Puts};
+ghost use Rattle.roman_io.specs.SinkCalls.{WritesTo, FailsWith};
 ghost use Rattle.roman_model.specs.declared.limits.TheConstants.{MAX_NAME_BYTES, PIECE_BYTES};
 ghost use Rattle.roman_text.specs.declared.piece.TheConstants.{LONGEST};
-ghost use Rattle.roman_text.specs.Pages.{Gathers};
+ghost use Rattle.roman_text.specs.Pages.{Gathers, Pushes};
 ghost use Rattle.roman_text.specs.Report.{line_text};
 
 mod replies;
@@ -63,8 +62,8 @@ impl Page {
     #[inline]
     #[tactic(auto, using(crate::proofs::PageLemmas::in_pieces))]
     pub fn push<O: Sink>(&mut self, bytes: &[u8], out: &mut O) -> Result<(), Failed>
-        ensures gathers { Gathers (O.written out.old) (O.written out.new) self.new (self.old ++ bytes.now) result }
-        ensures cause { HasCause (O.faults out.old) (O.faults out.new) result }
+        ensures gathers { Pushes O.Sink out.old out.new self.old self.new bytes.now result }
+        ensures cause { FailsWith O.Sink out.old out.new result }
     {
         if bytes.len() <= self.room() {
             self.add(bytes);
@@ -81,9 +80,9 @@ impl Page {
     /// Writes the held bytes, as one piece, and leaves the page empty. Writes nothing if no bytes
     /// are held. If the sink fails, the page is empty too, and a prefix of the piece was written.
     pub fn flush<O: Sink>(&mut self, out: &mut O) -> Result<(), Failed>
-        ensures puts { Puts (O.written out.old) (O.written out.new) self.old result }
+        ensures puts { WritesTo O.Sink out.old out.new self.old result }
         ensures empty { self.new ≡ [] }
-        ensures cause { HasCause (O.faults out.old) (O.faults out.new) result }
+        ensures cause { FailsWith O.Sink out.old out.new result }
     {
         if self.len == 0 {
             return Ok(());
@@ -102,9 +101,9 @@ impl Page {
         behind: &[u8],
         out: &mut O,
     ) -> Result<(), Failed>
-        ensures gathers { Gathers (O.written out.old) (O.written out.new) self.new
-            (self.old ++ (decimal n ++ behind.now)) result }
-        ensures cause { HasCause (O.faults out.old) (O.faults out.new) result }
+        ensures gathers { Pushes O.Sink out.old out.new self.old self.new
+            (decimal n ++ behind.now) result }
+        ensures cause { FailsWith O.Sink out.old out.new result }
     {
         if self.room() < DIGITS + behind.len() {
             self.push(Buffer::new().format(n).as_bytes(), out)?;
@@ -125,8 +124,8 @@ impl Page {
         out: &mut O,
     ) -> Result<(), Failed>
         requires { len ≤ SHORT }
-        ensures gathers { Gathers (O.written out.old) (O.written out.new) self.new (self.old ++ take len bytes.now) result }
-        ensures cause { HasCause (O.faults out.old) (O.faults out.new) result }
+        ensures gathers { Pushes O.Sink out.old out.new self.old self.new (take len bytes.now) result }
+        ensures cause { FailsWith O.Sink out.old out.new result }
     {
         if self.room() < SHORT {
             return self.push(&bytes[..len], out);
@@ -140,9 +139,9 @@ impl Page {
     #[inline]
     #[tactic(auto, using(crate::proofs::PageLemmas::in_pieces))]
     pub fn push_name<O: Sink>(&mut self, before: u8, name: &Name, out: &mut O) -> Result<(), Failed>
-        ensures gathers { Gathers (O.written out.old) (O.written out.new) self.new
-            (self.old ++ (before ∷ name.now)) result }
-        ensures cause { HasCause (O.faults out.old) (O.faults out.new) result }
+        ensures gathers { Pushes O.Sink out.old out.new self.old self.new
+            (before ∷ name.now) result }
+        ensures cause { FailsWith O.Sink out.old out.new result }
     {
         self.make_room(out)?;
         self.add_byte(before);
@@ -156,8 +155,8 @@ impl Page {
         line: &ReportLine,
         out: &mut O,
     ) -> Result<(), Failed>
-        ensures gathers { Gathers (O.written out.old) (O.written out.new) self.new (self.old ++ line_text line.now) result }
-        ensures cause { HasCause (O.faults out.old) (O.faults out.new) result }
+        ensures gathers { Pushes O.Sink out.old out.new self.old self.new (line_text line.now) result }
+        ensures cause { FailsWith O.Sink out.old out.new result }
     {
         self.push(report_piece(line).bytes(), out)
     }
@@ -166,7 +165,7 @@ impl Page {
     fn make_room<O: Sink>(&mut self, out: &mut O) -> Result<(), Failed>
         ensures gathers { Gathers (O.written out.old) (O.written out.new) self.new self.old result }
         ensures room { OnOk result (length self.new + LONGEST ≤ PIECE_BYTES) }
-        ensures cause { HasCause (O.faults out.old) (O.faults out.new) result }
+        ensures cause { FailsWith O.Sink out.old out.new result }
     {
         if self.room() >= LONGEST {
             return Ok(());

@@ -138,7 +138,8 @@ fn join<'a>(
     state: &'a [u8],
     loose: bool,
 ) -> Result<Event<'a>, LineError>
-    ensures { Shapes (if bytes_eq word.now (codes "join") then Ok (join service.now behaviour.now state.now loose) else Err LineError.Form) result }
+    ensures { Shapes (if bytes_eq word.now (codes "join") then Ok
+        (join service.now behaviour.now state.now loose) else Err LineError.Form) result }
 {
     if !is(word, "join") {
         return Err(LineError::Form);

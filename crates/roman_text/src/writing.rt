@@ -1,8 +1,7 @@
 //! Writes single lines to a sink.
-ghost use Rattle.roman_io.specs.Faults.{HasCause};
-ghost use Rattle.roman_io.specs.Sink.{Puts};
 ghost use Rattle.roman_text.specs.Replies.{reply_text};
 ghost use Rattle.roman_text.specs.Report.{line_text};
+ghost use Rattle.roman_io.specs.SinkCalls.{WritesTo, FailsWith};
 
 use crate::page::Page;
 use crate::replies::Reply;
@@ -13,8 +12,8 @@ use roman_io::{Failed, Sink};
 /// reply was then written.
 #[tactic(auto, using(crate::proofs::PageLemmas::in_pieces))]
 pub fn put_reply<O: Sink>(out: &mut O, reply: &Reply) -> Result<(), Failed>
-    ensures puts { Puts (O.written out.old) (O.written out.new) (reply_text reply.now) result }
-    ensures cause { HasCause (O.faults out.old) (O.faults out.new) result }
+    ensures puts { WritesTo O.Sink out.old out.new (reply_text reply.now) result }
+    ensures cause { FailsWith O.Sink out.old out.new result }
 {
     let mut page = Page::new();
     page.push_reply(reply, out)?;
@@ -24,8 +23,8 @@ pub fn put_reply<O: Sink>(out: &mut O, reply: &Reply) -> Result<(), Failed>
 /// Writes a report line, as one piece. Fails only when the sink's count of faults rose; a prefix of
 /// the line was then written.
 pub fn put_report_line<O: Sink>(out: &mut O, line: &ReportLine) -> Result<(), Failed>
-    ensures puts { Puts (O.written out.old) (O.written out.new) (line_text line.now) result }
-    ensures cause { HasCause (O.faults out.old) (O.faults out.new) result }
+    ensures puts { WritesTo O.Sink out.old out.new (line_text line.now) result }
+    ensures cause { FailsWith O.Sink out.old out.new result }
 {
     out.put(report_piece(line).bytes())
 }

@@ -1,5 +1,5 @@
 -- Writing advice by accepted costs as part of a run.
-use Rattle.roman_top.proofs.Common.{◌≡◌, ◌≢◌, ◌↔◌, ℕ, ◌*◌, ◌<◌, ◌≤◌, Bool, IsTrue, IsFalse, List, [], Result, Ok, Err, refl, sym, subst, arith, cond-true, cond-false, lt-ltb, cases_lt, le-ltb, Texts, Sys, Pair, IsSys, sizes_of, count, pair_at, is_related, related_count, by_test, related_great, great_related, numbers_are_pairs, same_test, NamedSys, system_of, PlainLibrary, IsSeated, Seated, Advising, Unrelated, TooMany, Told, advice_text, advised_by, Listed, SaysAdvice, GivesAdvice, OnCosts, Affords, Advise, IsAnswered, Accepts, document_opening, OnOpening, JobDoes, Status, PartError, Great, costs_of, AdviceError, MAX_VALUES, on_accepted, seated_start}
+use Rattle.roman_top.proofs.Common.{◌≡◌, ◌≢◌, ◌↔◌, ℕ, ◌*◌, ◌<◌, ◌≤◌, Bool, IsTrue, IsFalse, List, [], Result, Ok, Err, refl, sym, subst, arith, cond-true, cond-false, lt-ltb, cases_lt, le-ltb, Texts, Sys, Pair, IsSys, sizes_of, count, pair_at, is_related, related_count, by_test, related_great, great_related, numbers_are_pairs, same_test, NamedSys, system_of, PlainLibrary, IsSeated, Seated, Advising, Unrelated, TooMany, Told, advice_text, advised_by, Listed, SaysAdvice, DoesAdvise, OnCosts, Affords, Advise, IsAnswered, Accepts, document_opening, OnOpening, JobDoes, Status, PartError, Great, costs_of, AdviceError, MAX_VALUES, on_accepted, seated_start}
 use Rattle.roman_cost.specs.declared.error.AdviceError.TheVariants as advice_error
 use Rattle.roman_top.proofs.OpeningLemmas.{at_start}
 
@@ -53,5 +53,5 @@ few_advised : (n : NamedSys) (listed : List Listed) (h : ℕ) (p : Pair) → rel
 few_advised n listed h p few many = grind (arith, advised_told, advised_unrelated, by_test)
 
 -- if the costs are accepted and the values are few, advice is answered
-pub advice_answered : (name : List ℕ) (requests : ℕ) (texts : Texts) (library : PlainLibrary) (text : List ℕ) (result : Status) → Affords name requests texts library → GivesAdvice name requests texts library text result → IsAnswered result
+pub advice_answered : (name : List ℕ) (requests : ℕ) (texts : Texts) (library : PlainLibrary) (text : List ℕ) (result : Status) → Affords name requests texts library → DoesAdvise name requests texts library text result → IsAnswered result
 advice_answered name requests texts library text result affords gives = grind (arith, advising_answered, few_advised)

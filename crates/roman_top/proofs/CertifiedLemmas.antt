@@ -1,5 +1,5 @@
 -- A removal list is complete exactly if it lists the pairs that aren't related, validly.
-use Rattle.roman_top.proofs.Common.{◌≡◌, ℕ, zero, suc, ◌*◌, ◌<◌, List, [], ◌∷◌, map, IsTrue, inl, inr, refl, sym, ap₂, ◌∙◌, subst, arith, length, not, ◌↔◌, ◌⊎◌, list_any, both_ways, or_cases, not-true, or_parts, not-false, and_from, not_from_false, or_left, or_right, IsIn, is_empty, product_of, all_below, Sys, Pair, IsSys, IsPair, is_final, all_final, pairs, outcomes, same_pair, is_fine, arena, is_allowed, Entry, is_among, is_justified, IsOrderFrom, is_beaten, is_listed, IsComplete, cert_text, sizes_of, count, number, pair_at, entry_at, IsCompleteList, Reason, Final, Act, any_true, any_from, in_map, from_map, from_allowed, outcome_in, from_outcome, listed_in, in_listed, length-pairs, numbers_are_pairs, map-map, system_is_same, justified_is, in_not_empty, all_below_from, allowed_in, not_empty_in, by_test, HoldsReason, AreValid, ListsUnrelated, numbered_entry, CertifiesUnrelated, div-lt_iff_lt-mul, LeadsTo}
+use Rattle.roman_top.proofs.Common.{◌≡◌, ℕ, ◌*◌, ◌<◌, List, [], ◌∷◌, map, IsTrue, inl, inr, refl, sym, ap₂, ◌∙◌, subst, arith, length, not, ◌↔◌, ◌⊎◌, list_any, both_ways, or_cases, not-true, or_parts, not-false, and_from, not_from_false, or_left, or_right, IsIn, is_empty, all_below, Sys, Pair, IsSys, IsPair, is_final, all_final, pairs, outcomes, same_pair, is_fine, arena, is_allowed, Entry, is_among, is_justified, IsOrderFrom, is_beaten, is_listed, IsComplete, cert_text, sizes_of, count, pair_at, entry_at, IsCompleteList, Reason, Final, Act, any_true, any_from, in_map, from_map, from_allowed, outcome_in, from_outcome, listed_in, in_listed, length-pairs, numbers_are_pairs, map-map, system_is_same, justified_is, in_not_empty, all_below_from, allowed_in, not_empty_in, by_test, HoldsReason, AreValid, ListsUnrelated, numbered_entry, CertifiesUnrelated, LeadsTo, pair_number}
 
 -- Reasons.
 
@@ -66,18 +66,6 @@ complete_from s L ok lists = record {
 
 -- Numbers.
 
--- a factor of a product that has something below it isn't 0
-factor_some : (i a b : ℕ) → i < a * b → 0 < b
-factor_some i a zero h = omega arith
-factor_some i a (suc b) h = omega arith
-
--- a number whose pair is one of the system is below the count
-number_within : (s : Sys) (i : ℕ) → IsSys s → IsPair s (pair_at (sizes_of s) i) → i < count (sizes_of s)
-number_within s i ok pair =
-    let P : ℕ = product_of (sizes_of s).seats in
-    let some : 0 < P = factor_some (number (sizes_of s) (pair_at (sizes_of s) i)) (s.target.states * s.env.states) P ((numbers_are_pairs s).below (pair_at (sizes_of s) i) pair) in
-    (div-lt_iff_lt-mul some).0 ((div-lt_iff_lt-mul ok.env.states.0).0 pair.t)
-
 -- the entries of a complete list keep their numbers when they are read as pairs and numbered again
 numbers_back : (s : Sys) (L : List (Entry ℕ)) → IsSys s → IsCompleteList s L → map (numbered_entry s) (map (entry_at s) L) ≡ L
 numbers_back s L ok complete = map-map (numbered_entry s) (entry_at s) L ∙ each L (λ x i. complete.pairs (entry_at s x) (in_map (entry_at s) x L i))
@@ -86,7 +74,7 @@ numbers_back s L ok complete = map-map (numbered_entry s) (entry_at s) L ∙ eac
     each [] pairs = refl
     each (x ∷ M) pairs =
         ap₂ (λ (n : ℕ) (ys : List (Entry ℕ)). record { node = n; reason = x.reason } ∷ ys)
-        ((numbers_are_pairs s).there x.node (number_within s x.node ok (pairs x (inl refl)))) (each M (λ y i. pairs y (inr i)))
+        ((numbers_are_pairs s).there x.node (pair_number s x.node ok (pairs x (inl refl)))) (each M (λ y i. pairs y (inr i)))
 
 pub certifies_unrelated : (s : Sys) (L : List (Entry ℕ)) (text : List ℕ) → IsSys s → IsCompleteList s L → text ≡ cert_text (count (sizes_of s)) L → CertifiesUnrelated s text
 certifies_unrelated s L text ok complete says = record {

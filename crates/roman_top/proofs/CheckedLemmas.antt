@@ -1,7 +1,6 @@
 -- A certificate that `check` accepts lists exactly the pairs that aren't related, and each one that does is accepted.
-use Rattle.roman_top.proofs.Common.{◌≡◌, ℕ, ◌<◌, Bool, List, [], ◌∷◌, map, inl, inr, refl, sym, ap, ◌∙◌, subst, arith, filter_map, lines, Sys, Pair, IsSys, IsPair, pairs, Entry, IsComplete, AreEntries, Verdict, Greatest, Rejected, TooLong, cert_text, cert_verdict, IsWithinCells, GreatestIsComplete, entries_on, entry_of, greatest, is_related, related_count, sizes_of, count, number, pair_at, numbered, entry_at, IsCompleteList, from_map, length-pairs, length-below, numbers_are_pairs, map-map, related_great, great_related, written_is_greatest, ListsUnrelated, numbered_entry, CertifiesUnrelated, SaysVerdict, greatest_text, Status, TellsGreatest, certified_entries, JudgesCertificate}
+use Rattle.roman_top.proofs.Common.{◌≡◌, ℕ, ◌<◌, Bool, List, [], ◌∷◌, map, inl, inr, refl, sym, ap, ◌∙◌, subst, filter_map, lines, Sys, Pair, IsSys, IsPair, Entry, IsComplete, AreEntries, Verdict, Greatest, Rejected, TooLong, cert_text, cert_verdict, IsWithinCells, GreatestIsComplete, entries_on, entry_of, greatest, is_related, related_count, sizes_of, count, number, pair_at, numbered, entry_at, IsCompleteList, from_map, length-pairs, length-below, numbers_are_pairs, map-map, related_great, great_related, written_is_greatest, ListsUnrelated, numbered_entry, CertifiesUnrelated, SaysVerdict, greatest_text, Status, TellsGreatest, certified_entries, JudgesCertificate, related_counted}
 use Rattle.roman_top.proofs.CertifiedLemmas.{lists_unrelated, complete_from}
-use Rattle.roman_top.proofs.ServingLemmas.{related_all}
 
 -- Numbers.
 
@@ -41,7 +40,7 @@ accepted_tells law s p certificate related starts text ok few pair verdict says 
       subst (ListsUnrelated s) (entries_read s certificate) (lists_unrelated s (map (entry_at s) (entries_on (numbered s) (lines certificate))) ok accepted.complete),
       record {
         related = related_count s;
-        great = related_all s ok;
+        great = related_counted s ok;
         starts = starts;
         start = (λ t. related_great s p ok pair (sym same ∙ t), λ great. same ∙ great_related s p ok great);
         says = says ∙ ap (λ n. greatest_text n starts) (ap related_of accepted.said);

@@ -1,6 +1,6 @@
 -- Commands are answered.
 use Rattle.roman_opening.specs.declared.status.Status.TheVariants as status
-use Rattle.roman_top.proofs.Common.{◌∙◌, ◌≡◌, ◌≢◌, ℕ, IsTrue, List, Option, None, Some, IfSome, refl, sym, subst, Texts, shelf_text, Sys, Pair, sizes_of, number, numbered, Verdict, Greatest, Rejected, TooLong, cert_verdict, PlainLibrary, start_pair_of, is_heard_out, Job, Synth, Run, Certify, Check, Shortest, Advise, Resilience, Command, On, Make, IsAnswered, Suffices, CanAnswer, IsUndisturbed, AnswersWherePossible, library_system, document_opening, EndsBy, SaysVerdict, Talks, JobDoes, IsSessionText, HasRun, texts_for, Served, World, Status, cond-true, told_all, told_more, work_of}
+use Rattle.roman_top.proofs.Common.{◌∙◌, ◌≡◌, ◌≢◌, ℕ, IsTrue, List, Option, None, Some, IfSome, refl, sym, subst, Texts, shelf_text, Sys, Pair, sizes_of, number, numbered, Verdict, Greatest, Rejected, TooLong, cert_verdict, PlainLibrary, start_pair_of, is_heard_out, Job, Synth, Run, Certify, Check, Shortest, Advise, Resilience, Command, On, Make, IsAnswered, Suffices, CanAnswer, IsUndisturbed, AnswersWherePossible, library_system, document_opening, EndsBy, SaysVerdict, DoesRun, JobDoes, IsSessionText, HasRun, texts_for, Served, World, Status, cond-true, told_all, work_of, IfSome_then}
 use Rattle.roman_top.proofs.AdviseLemmas.{advice_answered}
 
 -- The answers
@@ -19,16 +19,16 @@ judged_answered (Greatest related start) text result short judges = is_done resu
 judged_answered (Rejected line why) text result short judges = subst IsAnswered (sym judges.1) tt
 judged_answered TooLong text result short judges = absurd (short refl)
 
-talked_answered : (session : List ℕ) (library : PlainLibrary) (text : List ℕ) (result : Status) → IsTrue (is_heard_out session) → Talks session library text result → IsAnswered result
-talked_answered session library text result short talks = is_done result (talks.1 ∙ cond-true (is_heard_out session) status.Done status.TooLong short)
+run_answered : (session : List ℕ) (library : PlainLibrary) (text : List ℕ) (result : Status) → IsTrue (is_heard_out session) → DoesRun session library text result → IsAnswered result
+run_answered session library text result short talks = is_done result (talks.1 ∙ cond-true (is_heard_out session) status.Done status.TooLong short)
 
 -- a job on its library is answered
 job_answered : (job : Job) (texts : Texts) (system : List ℕ) (rest : Option (List ℕ)) (session text : List ℕ) (library : PlainLibrary) (result : Status) → IsSessionText (Some (On system job)) texts rest session → Suffices job texts rest library →
     JobDoes job texts session library text result → IsAnswered result
 job_answered Synth texts system rest session text library result given enough does = ends_answered (library_system library) (start_pair_of library) result does.1
 job_answered (Run None) texts system None session text library result given enough does = absurd enough
-job_answered (Run None) texts system (Some bytes) session text library result given enough does = talked_answered session library text result (subst (λ (b : List ℕ). IsTrue (is_heard_out b)) given enough) does
-job_answered (Run (Some name)) texts system rest session text library result given enough does = talked_answered session library text result (subst (λ (b : List ℕ). IsTrue (is_heard_out b)) (sym given) enough) does
+job_answered (Run None) texts system (Some bytes) session text library result given enough does = run_answered session library text result (subst (λ (b : List ℕ). IsTrue (is_heard_out b)) given enough) does
+job_answered (Run (Some name)) texts system rest session text library result given enough does = run_answered session library text result (subst (λ (b : List ℕ). IsTrue (is_heard_out b)) (sym given) enough) does
 job_answered Certify texts system rest session text library result given enough does = is_done result does.says.1
 job_answered Resilience texts system rest session text library result given enough does = is_done result does.1
 job_answered (Check certificate) texts system rest session text library result given enough does =
@@ -49,7 +49,7 @@ by_status asked old new status.ReadFault served quiet = absurd (quiet.input serv
 by_status asked old new status.WriteFault served quiet = absurd (quiet.out served.out)
 by_status asked old new status.Memory served quiet = told_all _ (λ texts. CanAnswer asked texts old.rest → IsAnswered status.Memory) (λ texts can. tt)
 by_status asked old new result served quiet =
-    told_more _ _ (λ texts. CanAnswer asked texts old.rest → IsAnswered result) (served.run tt) (λ texts run can. answered asked texts old new result run can)
+    IfSome_then _ {Q = (λ texts. CanAnswer asked texts old.rest → IsAnswered result)} (served.run tt) (λ texts run can. answered asked texts old new result run can)
 
 pub completes : (asked : Option Command) (old new : World) (result : Status) → Served asked old new result → AnswersWherePossible asked old new result
 completes asked old new result served quiet = by_status asked old new result served quiet

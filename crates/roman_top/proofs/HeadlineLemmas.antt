@@ -1,6 +1,5 @@
 -- The text of a session keeps its promise.
-use Rattle.roman_opening.specs.declared.status.Status.TheVariants as status
-use Rattle.roman_top.proofs.Common.{◌≡◌, ℕ, List, length, take, nat_le, Option, Some, sym, subst, arith, if◌then◌else◌, Texts, Wrote, GreatestIsComplete, lines, ended_lines, IsIn, MAX_SESSION_BYTES, PlainLibrary, Situation, report_text, parts_of, start_pair_of, Answers, State, start_state, IsState, LinesAreRead, Synth, Run, Command, On, IsFree, MeansTargets, IsTurnOfTargets, KeepsTargets, HasAnsweredTargets, Turn, Means, HasAnsweredLines, Accepted, document_opening, Talks, Synthesises, HasRun, Served, World, Status, PlainTargets, NamesTargets, library_of, targets_combined, ReportsGreat, reports_great, answered_heard, KeepsPromise, HasHeadline, HasReported, told_more, work_of, opens_within}
+use Rattle.roman_top.proofs.Common.{◌≡◌, ℕ, List, length, take, nat_le, Option, Some, sym, subst, arith, if◌then◌else◌, Texts, Wrote, GreatestIsComplete, lines, ended_lines, IsIn, MAX_SESSION_BYTES, PlainLibrary, Situation, report_text, parts_of, start_pair_of, Answers, State, start_state, IsState, LinesAreRead, Synth, Run, Command, On, IsFree, MeansTargets, IsTurnOfTargets, KeepsTargets, HasAnsweredTargets, Turn, Means, HasAnsweredLines, Accepted, document_opening, DoesRun, DoesSynth, HasRun, Served, World, Status, PlainTargets, NamesTargets, library_of, targets_combined, ReportsGreat, reports_great, answered_heard, KeepsPromise, HasHeadline, HasReported, work_of, opens_within, IfSome_then}
 use Rattle.roman_top.proofs.JobLemmas.{keeps_text}
 use Rattle.roman_top.proofs.StartsKnown.{starts_known, some_start}
 use Rattle.roman_top.proofs.TargetLemmas.{means_targets, steps_tell}
@@ -14,9 +13,9 @@ means_accepted texts system library (is, fits) = opens_within (library_of texts 
 abbrev lines_within : List ℕ → List (List ℕ)
 lines_within session = if nat_le (length session) MAX_SESSION_BYTES then lines session else ended_lines (take MAX_SESSION_BYTES session)
 
-talked : (P : Turn → Type 0) (texts : Texts) (system session : List ℕ) (library : PlainLibrary) (text : List ℕ) (result : Status) → LinesAreRead → StepsTell library P → document_opening texts system ≡ Accepted library → Talks session library text result →
+run_told : (P : Turn → Type 0) (texts : Texts) (system session : List ℕ) (library : PlainLibrary) (text : List ℕ) (result : Status) → LinesAreRead → StepsTell library P → document_opening texts system ≡ Accepted library → DoesRun session library text result →
     (now : Situation) × HasTurns P library (start_state library) now (lines_within session) text
-talked P texts system session library text result read tell accepted talks =
+run_told P texts system session library text result read tell accepted talks =
     let tells = talks.0 in
     let known = starts_known texts system library tells.start accepted tells.begins in
     let told = subst (λ (ls : List (List ℕ)). Answers tells.start ls text tells.now) (answered_heard session) tells.told in (
@@ -36,7 +35,7 @@ answered_lines : (P : Turn → Type 0) (texts : Texts) (system : List ℕ) (name
     (answered : HasAnsweredLines (Some (On system (Run name))) library texts old new) × ((x : Turn) → IsIn x answered.turns → P x)
 answered_lines P texts system name library old new result read tell means run =
     let accepted = means_accepted texts system library means in
-    let (now, all) = talked P texts system run.session library run.text result read tell accepted (work_of (Talks run.session) (document_opening texts system) library run.text result accepted run.run) in (
+    let (now, all) = run_told P texts system run.session library run.text result read tell accepted (work_of (DoesRun run.session) (document_opening texts system) library run.text result accepted run.run) in (
       record {
         session = run.session;
         given = run.given;
@@ -50,25 +49,25 @@ answered_lines P texts system name library old new result read tell means run =
 -- a run keeps the promise
 keeps_promise : (asked : Option Command) (old new : World) (result : Status) → LinesAreRead → Served asked old new result → IsFree result → KeepsPromise asked old new
 keeps_promise (Some (On system Synth)) old new result read served free =
-    told_more _ _ (λ texts. (library : PlainLibrary) → Means texts system library → HasReported library old new) (served.run free) (λ texts run library means.
+    IfSome_then _ {Q = (λ texts. (library : PlainLibrary) → Means texts system library → HasReported library old new)} (served.run free) (λ texts run library means.
     let accepted = means_accepted texts system library means in
-    let (start, great) = reported texts system library run.text accepted (work_of Synthesises (document_opening texts system) library run.text result accepted run.run).0 in
+    let (start, great) = reported texts system library run.text accepted (work_of DoesSynth (document_opening texts system) library run.text result accepted run.run).0 in
     record { start = start; text = run.text; great = great; wrote = run.wrote })
 keeps_promise (Some (On system (Run name))) old new result read served free =
-    told_more _ _ (λ texts. (library : PlainLibrary) → Means texts system library → HasAnsweredLines (Some (On system (Run name))) library texts old new) (served.run free) (λ texts run library means.
+    IfSome_then _ {Q = (λ texts. (library : PlainLibrary) → Means texts system library → HasAnsweredLines (Some (On system (Run name))) library texts old new)} (served.run free) (λ texts run library means.
     (answered_lines (λ x. Unit {0}) texts system name library old new result read (λ s mid line said from known onward next turn. tt) means run).0)
 keeps_promise _ old new result read served free = tt
 
 -- if a document names several targets, a run keeps the promise target by target
 keeps_targets : (asked : Option Command) (old new : World) (result : Status) → LinesAreRead → Served asked old new result → IsFree result → KeepsTargets asked old new
 keeps_targets (Some (On system Synth)) old new result read served free =
-    told_more _ _ (λ texts. (library : PlainLibrary) (said : PlainTargets) → Means texts system library → NamesTargets texts system said → MeansTargets said (start_state library)) (served.run free) (λ texts run library said means names.
+    IfSome_then _ {Q = (λ texts. (library : PlainLibrary) (said : PlainTargets) → Means texts system library → NamesTargets texts system said → MeansTargets said (start_state library))} (served.run free) (λ texts run library said means names.
     let accepted = means_accepted texts system library means in
     let (start, begins) = some_start texts system library accepted in
     subst (MeansTargets said) (start_seen library start begins)
     (means_targets said library start (targets_combined texts system library said means.0 names) (start_from library start begins) (starts_known texts system library start accepted begins)))
 keeps_targets (Some (On system (Run name))) old new result read served free =
-    told_more _ _ (λ texts. (library : PlainLibrary) (said : PlainTargets) → Means texts system library → NamesTargets texts system said → HasAnsweredTargets (Some (On system (Run name))) library said texts old new) (served.run free)
+    IfSome_then _ {Q = (λ texts. (library : PlainLibrary) (said : PlainTargets) → Means texts system library → NamesTargets texts system said → HasAnsweredTargets (Some (On system (Run name))) library said texts old new)} (served.run free)
     (λ texts run library said means names.
     let (answered, each) = answered_lines (IsTurnOfTargets said) texts system name library old new result read (steps_tell said library (targets_combined texts system library said means.0 names)) means run in
     record { answered = answered; each = each })

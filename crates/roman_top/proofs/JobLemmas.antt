@@ -1,9 +1,9 @@
 -- A run of a job on an accepted document keeps its promise.
-use Rattle.roman_top.proofs.Common.{◌≡◌, ℕ, ◌≤◌, List, [], Option, None, Some, sym, subst, arith, Texts, shelf_text, IsSys, IsPair, IsWithinCells, GreatestIsComplete, cells, library_of, PlainLibrary, libraries_known, parts_of, start_pair_of, start_pair, LinesAreRead, Job, Synth, Run, Certify, Check, Shortest, Advise, Resilience, Command, On, Make, IsFree, TellsLosses, Accepted, document_opening, library_system, JobDoes, HasRun, Served, World, Status, WritesText, MAX_CELLS, KeepsJob, KeepsText, told_more, work_of, accepted_is}
+use Rattle.roman_top.proofs.Common.{◌≡◌, ℕ, ◌≤◌, List, [], Option, None, Some, sym, subst, arith, Texts, shelf_text, IsSys, IsPair, IsWithinCells, GreatestIsComplete, cells, library_of, PlainLibrary, libraries_known, parts_of, start_pair_of, start_pair, LinesAreRead, Job, Synth, Run, Certify, Check, Shortest, Advise, Resilience, Command, On, Make, IsFree, TellsLosses, Accepted, document_opening, library_system, JobDoes, HasRun, Served, World, Status, WritesText, MAX_CELLS, KeepsJob, KeepsText, IfSome_then, work_of, accepted_is}
 use Rattle.roman_top.proofs.AdvisedLemmas.{keeps_advice}
 use Rattle.roman_top.proofs.CertifiedLemmas.{certifies_unrelated}
 use Rattle.roman_top.proofs.CheckedLemmas.{judges_certificate}
-use Rattle.roman_top.proofs.LossLemmas.{tells_losses}
+use Rattle.roman_top.proofs.ResilienceLemmas.{tells_losses}
 use Rattle.roman_top.proofs.MadeLemmas.{keeps_made}
 use Rattle.roman_top.proofs.StartsKnown.{library_parts}
 
@@ -36,7 +36,7 @@ job_kept law Resilience texts session library text result begins does = (
 )
 
 pub keeps_text : LinesAreRead → GreatestIsComplete → (asked : Option Command) (old new : World) (result : Status) → Served asked old new result → IsFree result → KeepsText asked old new result
-keeps_text read law (Some (On system job)) old new result served free = told_more _ _ (λ texts. (library : PlainLibrary) → document_opening texts system ≡ Accepted library → WritesText (KeepsJob job texts library) old.written new.written result) (served.run free)
+keeps_text read law (Some (On system job)) old new result served free = IfSome_then _ {Q = (λ texts. (library : PlainLibrary) → document_opening texts system ≡ Accepted library → WritesText (KeepsJob job texts library) old.written new.written result)} (served.run free)
     (λ texts run library accepted. record {
       text = run.text;
       run = job_kept law job texts run.session library run.text result (library_begins texts system library accepted)

@@ -5,13 +5,13 @@ pub mod ServedLemmas
 pub mod SynthLemmas
 pub mod AdviseLemmas
 pub mod CompleteLemmas
-pub mod OutlookLemmas
-pub mod StageLemmas
-pub mod TalkLemmas
+pub mod ResilienceTextLemmas
+pub mod MakeStageLemmas
+pub mod RunLemmas
 pub mod StartsKnown
 pub mod MakeLemmas
 pub mod ServingLemmas
-pub mod LossLemmas
+pub mod ResilienceLemmas
 pub mod AdvisedLemmas
 pub mod CertifiedLemmas
 pub mod CheckedLemmas

@@ -1,5 +1,5 @@
 -- Jobs on opened documents.
-use Rattle.roman_top.proofs.Common.{◌≡◌, ℕ, List, [], Option, IfSome, Result, Ok, refl, ◌∙◌, subst, HasCause, Texts, rest_from, Puts, Pair, sizes_of, pair_at, NamedSys, system_of, PlainLibrary, parts_of, start_pair_of, Job, JobDoes, Ends, Prints, EndsEarly, Opened, OpensDocument, DoesJob, TurnsAway, Accepts, IsRelated, Finishes, document_opening, library_system, OnOpening, Related, Outputs, Status, told_all, told_more, told_both, IsSaid, put_ends, ends_weaker, opened_from, on_accepted, away_is_run}
+use Rattle.roman_top.proofs.Common.{◌≡◌, ℕ, List, [], Option, IfSome, Result, Ok, refl, ◌∙◌, subst, HasCause, Texts, rest_from, Puts, Pair, sizes_of, pair_at, NamedSys, system_of, PlainLibrary, parts_of, start_pair_of, Job, JobDoes, Ends, Prints, EndsEarly, Opened, OpensDocument, DoesJob, TurnsAway, Accepts, IsRelated, Finishes, document_opening, library_system, OnOpening, Related, Outputs, Status, told_all, IfSome_then, told_both, IsSaid, put_ends, ends_weaker, opened_from, on_accepted, away_is_run}
 
 -- a source over a whole text has that text
 pub text_source : (told given : Option Texts) (name given_name : List ℕ) (at : ℕ) → given ≡ told → given_name ≡ name → at ≡ 0 → rest_from given given_name at ≡ rest_from told name 0
@@ -46,7 +46,7 @@ early_does system job old new result away = record {
 pub work_does : {X : Type 0} (Holds : Texts → X → Type 0) (x : X) (Work : Texts → List ℕ → Status → Type 0) (system : List ℕ) (job : Job) (old mid new : Outputs) (result : Status) → Opened Holds old mid x →
     ((texts : Texts) → Holds texts x → (text : List ℕ) (ends : Status) → Work texts text ends → OnOpening (JobDoes job texts []) (document_opening texts system) text ends) → Ends Work mid new result → DoesJob system job old new result
 work_does Holds x Work system job old mid new result opened is_run ends =
-    opened_from Holds x old mid (λ (now : Outputs). DoesJob system job now new result) opened (λ holds. record { ends = ends_weaker Work _ mid new result (told_more mid.texts _ _ holds is_run) ends })
+    opened_from Holds x old mid (λ (now : Outputs). DoesJob system job now new result) opened (λ holds. record { ends = ends_weaker Work _ mid new result (IfSome_then mid.texts holds is_run) ends })
 
 -- the work on an opened document
 pub opened_does : {X : Type 0} (Holds : PlainLibrary → X → Type 0) (x : X) (Work : List ℕ → Status → Type 0) (system : List ℕ) (job : Job) (old mid new : Outputs) (result : Status) → OpensDocument Holds system old mid (Ok x) →

@@ -1,6 +1,6 @@
 -- What a call does, derived from what its parts do.
 use Rattle.roman_opening.specs.declared.status.Status.TheVariants as status
-use Rattle.roman_top.proofs.Common.{◌≡◌, ◌≢◌, ℕ, List, [], Option, None, Some, Result, Ok, Err, inl, refl, sym, subst, arith, IsSome, HasCause, Rose, Texts, shelf_text, Puts, SinkCause, ShelfCause, InputCause, Job, Run, Command, On, Make, usage_line, Writes, EndsBare, Prints, EndsEarly, TurnsAway, Finishes, WritesPrefix, DoesJob, IsFree, HasRunPrefix, AtReadFault, AtWriteFault, AtMemory, AtShelfFault, EndsInput, IsOfTaken, document_opening, OnOpening, JobDoes, Makes, IsSessionText, HasRun, Talks, Runs, WithTexts, Served, ServedBeside, World, outputs, Outputs, beside, IsUnwritten, world, Status, Gave, Had, Gave-nil, told_more, away_is_run}
+use Rattle.roman_top.proofs.Common.{◌≡◌, ◌≢◌, ℕ, List, [], Option, None, Some, Result, Ok, Err, inl, refl, sym, subst, arith, IsSome, HasCause, Rose, Texts, shelf_text, Puts, SinkCause, ShelfCause, InputCause, Job, Run, Command, On, Make, usage_line, Writes, EndsBare, Prints, EndsEarly, TurnsAway, Finishes, WritesPrefix, DoesJob, IsFree, HasRunPrefix, AtReadFault, AtWriteFault, AtMemory, AtShelfFault, EndsInput, IsOfTaken, document_opening, OnOpening, JobDoes, DoesMake, IsSessionText, HasRun, DoesRun, Runs, WithTexts, Served, ServedBeside, World, outputs, Outputs, beside, IsUnwritten, world, Status, Gave, Had, Gave-nil, away_is_run, IfSome_then}
 
 -- equal commands do the same
 pub served_as : (asked other : Option Command) (old new : World) (result : Status) → asked ≡ other → Served other old new result → Served asked old new result
@@ -56,11 +56,11 @@ says_of : (asked : Option Command) (IsRun : Texts → List ℕ → Status → Ty
     WithTexts asked old.texts (λ texts. Writes (IsRun texts) old.written new.written result) → Says asked old new result
 says_of asked IsRun old new status.ShelfFault some takes stops writes = takes.shelf refl stops
 says_of asked IsRun old new status.ReadFault some takes stops writes = absurd stops
-says_of asked IsRun old new status.WriteFault some takes stops writes = told_more _ _ (λ texts. HasRunPrefix asked texts old.rest old new × IsOfTaken asked texts old new) writes (λ texts w.
+says_of asked IsRun old new status.WriteFault some takes stops writes = IfSome_then _ {Q = (λ texts. HasRunPrefix asked texts old.rest old new × IsOfTaken asked texts old new)} writes (λ texts w.
     let (session, given, is_run) = takes.run texts in
     (record { session = session; given = given; text = w.text; ends = w.ends; run = is_run w.text w.ends w.run; wrote = w.wrote }, takes.taken texts w))
 says_of asked IsRun old new status.Memory some takes stops writes = (some, stops)
-says_of asked IsRun old new result some takes stops writes = told_more _ _ (λ texts. HasRun asked texts old new result) writes (λ texts w.
+says_of asked IsRun old new result some takes stops writes = IfSome_then _ {Q = (λ texts. HasRun asked texts old new result)} writes (λ texts w.
     let (session, given, is_run) = takes.run texts in
     record { session = session; given = given; text = w.text; run = is_run w.text result w.run; wrote = w.wrote })
 
@@ -74,14 +74,14 @@ takes_served asked IsRun old new rest faults result some takes writes stops shel
 -- a session whose document isn't opened
 away_takes : (system : List ℕ) (name : Option (List ℕ)) (old new : World) (result : Status) → Gave old.rest new.rest [] → result ≢ status.Done → TakesNothing (Some (On system (Run name))) (TurnsAway system) old new result
 away_takes system None old new result gave early = record {
-  run = λ texts. let (session, had) = some_rest old.rest in (session, had, away_is_run (Talks session) (document_opening texts system));
+  run = λ texts. let (session, had) = some_rest old.rest in (session, had, away_is_run (DoesRun session) (document_opening texts system));
   shelf = λ is unwritten. unwritten;
   taken = λ texts w. record {
     taken = [];
     more = [];
     gave = gave;
     ends = inl refl;
-    run = record { session = []; given = refl; text = w.text; ends = w.ends; run = away_is_run (Talks []) (document_opening texts system) w.text w.ends w.run; wrote = w.wrote };
+    run = record { session = []; given = refl; text = w.text; ends = w.ends; run = away_is_run (DoesRun []) (document_opening texts system) w.text w.ends w.run; wrote = w.wrote };
   };
   ends = not_done result early;
 }
@@ -94,7 +94,7 @@ away_takes system None old new result gave early = record {
     not_done status.Done early = absurd (early refl)
     not_done _ early = tt
 away_takes system (Some name) old new result gave early = record {
-  run = λ texts. (shelf_text texts name, refl, away_is_run (Talks (shelf_text texts name)) (document_opening texts system));
+  run = λ texts. (shelf_text texts name, refl, away_is_run (DoesRun (shelf_text texts name)) (document_opening texts system));
   shelf = λ is unwritten. inl unwritten;
   taken = λ texts w. tt;
   ends = tt;
@@ -123,11 +123,11 @@ job_served system job told told_now shelf shelf_now rest input old new out out_n
     (plain_takes system job _ _ result plain) does.ends.writes does.ends.stops does.ends.shelf does.ends.out does.ends.texts
 
 -- a made system
-pub made_served : (n : ℕ) (told : Option Texts) (shelf : ℕ) (rest : Option (List ℕ)) (input : ℕ) (old new : Option (List ℕ)) (out out_now : ℕ) (result : Status) → Prints (Makes n) old out new out_now result →
+pub made_served : (n : ℕ) (told : Option Texts) (shelf : ℕ) (rest : Option (List ℕ)) (input : ℕ) (old new : Option (List ℕ)) (out out_now : ℕ) (result : Status) → Prints (DoesMake n) old out new out_now result →
     Served (Some (Make n)) (world told shelf rest input old out) (world told shelf rest input new out_now) result
 made_served n told shelf rest input old new out out_now result prints =
     let made = prints.ends (Some []) shelf in
-    takes_served (Some (Make n)) (λ texts. Makes n) (outputs told shelf old out) (outputs told shelf new out_now) rest input result refl (record {
+    takes_served (Some (Make n)) (λ texts. DoesMake n) (outputs told shelf old out) (outputs told shelf new out_now) rest input result refl (record {
       run = λ texts. ([], tt, λ text ends run. run);
       shelf = λ is unwritten. let rose : Rose 0 0 = subst (ShelfCause 0 0) is (prints.ends None 0).shelf in absurd (omega arith);
       taken = λ texts w. tt;

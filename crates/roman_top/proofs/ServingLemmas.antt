@@ -1,16 +1,6 @@
 -- Outlooks are right: they count the related pairs, and the cases in which a seat serves an action.
-use Rattle.roman_top.proofs.Common.{◌≡◌, ℕ, List, [], map, length, IsTrue, refl, sym, ap, ◌∙◌, subst, arith, filter, cond-true, cond-false, length-map, slice_get_within, IsIn, below, HasNoRepeats, Sys, Pair, IsSys, IsPair, pairs, is_allowed, is_related, related_count, offers, choice_count, outlook, by_test, in_map, from_map, from_flat_map, allowed_in, from_allowed, related_great, great_related, in_flat_map, in_filter, filter_in, in_below, HasNoRepeats-map, HasNoRepeats-flat_map, HasNoRepeats-filter, HasNoRepeats-below, sum_by_same, in_pairs, from_pairs, pairs_once, allowed_in_range, offers_are, offer_is, length-flat_map, Great, Counts, Serving, IsServing, AreServings, IsRightOutlook}
+use Rattle.roman_top.proofs.Common.{◌≡◌, ℕ, List, map, length, IsTrue, sym, ap, ◌∙◌, subst, arith, cond-true, cond-false, length-map, slice_get_within, IsIn, below, HasNoRepeats, Sys, Pair, IsSys, IsPair, pairs, is_allowed, offers, choice_count, outlook, by_test, in_map, from_map, from_flat_map, allowed_in, from_allowed, related_great, great_related, in_flat_map, in_below, HasNoRepeats-map, HasNoRepeats-flat_map, HasNoRepeats-filter, HasNoRepeats-below, sum_by_same, in_pairs, from_pairs, pairs_once, allowed_in_range, offers_are, offer_is, length-flat_map, Serving, IsServing, AreServings, IsRightOutlook, related_counted}
 use Rattle.std.proofs.Common.{flat_map}
-
--- The related pairs.
-
-pub related_all : (s : Sys) → IsSys s → Counts s (Great s) (related_count s)
-related_all s ok = record {
-  pairs = filter (is_related s) (pairs s);
-  once = HasNoRepeats-filter (is_related s) (pairs s) (pairs_once s);
-  each = λ p. grind (arith, filter_in, from_pairs, great_related, in_filter, in_pairs, related_great);
-  count = refl;
-}
 
 -- The cases in which a seat serves an action.
 
@@ -85,7 +75,7 @@ servings_all s ok = record { once = servings_once s; each = λ x. (is_serving s 
 pub outlook_right : (s : Sys) (p : Pair) → IsSys s → IsPair s p → IsRightOutlook s p (outlook s p)
 outlook_right s p ok pair = record {
   composes = (related_great s p ok pair, great_related s p ok);
-  related = related_all s ok;
+  related = related_counted s ok;
   servings = all_servings s;
   serve = servings_all s ok;
   choices = sym (servings_counted s);

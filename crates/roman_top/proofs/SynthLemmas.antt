@@ -1,5 +1,5 @@
 -- Writing reports as part of a run.
-use Rattle.roman_top.proofs.Common.{◌≡◌, ℕ, List, Bool, true, false, sym, subst, arith, both_ways, is_related, related_great, great_related, PlainLibrary, Situation, present_system, IsSituation, report_text, IsStart, EndsBy, Synthesises, Status, status_of, IsSaid}
+use Rattle.roman_top.proofs.Common.{◌≡◌, ℕ, List, Bool, true, false, sym, subst, arith, both_ways, is_related, related_great, great_related, PlainLibrary, Situation, present_system, IsSituation, report_text, IsStart, EndsBy, DoesSynth, Status, status_of, IsSaid}
 
 -- the status says whether the pair is related
 ends_by : (s : Situation) → IsSituation s → (related : Bool) → related ≡ is_related (present_system s) s.here → IsSaid (status_of related) × EndsBy (present_system s) s.here (status_of related)
@@ -10,5 +10,5 @@ pub ends_as : (s : Situation) (related : Bool) (result : Status) → IsSituation
 ends_as s related result known e is = subst (λ (ends : Status). IsSaid ends × EndsBy (present_system s) s.here ends) (sym is) (ends_by s known related e)
 
 -- the report on the starting situation is that of the library
-pub reported_is_run : (s : Situation) (library : PlainLibrary) → IsStart library s → (text : List ℕ) (ends : Status) → (text ≡ report_text s.parts s.here) × EndsBy (present_system s) s.here ends → Synthesises library text ends
+pub reported_is_run : (s : Situation) (library : PlainLibrary) → IsStart library s → (text : List ℕ) (ends : Status) → (text ≡ report_text s.parts s.here) × EndsBy (present_system s) s.here ends → DoesSynth library text ends
 reported_is_run s library start text ends reports = grind arith

@@ -1,5 +1,5 @@
 -- A turn of a session on a document with several targets, target by target.
-use Rattle.roman_top.proofs.Common.{◌≡◌, ◌↔◌, ℕ, ◌<◌, List, [], length, Result, Ok, Some, IsTrue, inl, inr, slice_get, sym, ap, ◌∙◌, subst, arith, slice_set, length-map, slice_get_within, get_or_from_slice_get, slice_get-get_or, below, product_of, IsSublist, Sys, IsPair, Beh, has_move, TStep, SStep, Allows, length-below, there_is, from_get_map, get_map, get_or-below, move_in_range, LineShape, ask, hand, saw, LineError, NamedSys, seat_of, system_of, PlainLibrary, PlainTargets, CombinesTargets, Situation, Idle, shown, IsKnownSituation, State, IsOpenGreat, MayAsk, TurnsInto, Needs, open_great, means_all, parts_are, parts_in, MeansTargets, IsTurnOfTargets, couple_now, TargetAction, OffersServingAll, MovesOne, TellsTarget, couple, Serves, GreatCouple, name_at, states_at, Several, of_one, ServesAll, GreatAll, all_requests, couple_all, target_sizes, Request, TargetAllows, IsRequestOf, IsMoveOf, TurnsAreOf, request_at, turns_of, reply_text, PlainCombined, machines, requests_in, joined, names_at, combined_state_names, request_name, request_names, combined_parts, MeansAll, several_with, Replies, OffersServing}
+use Rattle.roman_top.proofs.Common.{◌≡◌, ◌↔◌, ℕ, ◌<◌, List, [], length, Result, Ok, Some, IsTrue, inl, inr, slice_get, sym, ap, ◌∙◌, subst, arith, slice_set, length-map, slice_get_within, get_or_from_slice_get, slice_get-get_or, below, product_of, IsSublist, Sys, IsPair, Beh, has_move, TStep, SStep, Allows, length-below, there_is, from_get_map, get_map, get_or-below, move_in_range, LineShape, request, delegate, observe, LineError, NamedSys, seat_of, system_of, PlainLibrary, PlainTargets, CombinesTargets, Situation, Idle, shown, IsKnownSituation, State, IsOpenGreat, MayRequest, TurnsInto, Needs, open_great, means_all, parts_are, parts_in, MeansTargets, IsTurnOfTargets, couple_now, TargetAction, OffersServingAll, MovesOne, TellsTarget, couple, Serves, GreatCouple, name_at, states_at, Several, of_one, ServesAll, GreatAll, all_requests, couple_all, target_sizes, Request, TargetAllows, IsRequestOf, IsMoveOf, TurnsAreOf, request_at, turns_of, reply_text, PlainCombined, machines, requests_in, joined, names_at, combined_state_names, request_name, request_names, combined_parts, MeansAll, several_with, Replies, OffersServing}
 use Rattle.roman_text.specs.declared.replies.Reply.TheVariants as reply
 use Rattle.roman_top.proofs.TurnLemmas.{IsFrom, StepsTell}
 
@@ -66,9 +66,9 @@ module _ (said : PlainTargets) (library : PlainLibrary) (s : Situation) (combine
       request_is n r at
 
   -- an open request is an action of a target
-  request_open : (n : ℕ) → MayAsk here n → HasRequest n
-  request_open n asked =
-      let (i, target, a, is) = turns.named n (subst (λ (sys : Sys). Allows sys s.here.t s.here.e n) means.system asked) in
+  request_open : (n : ℕ) → MayRequest here n → HasRequest n
+  request_open n requested =
+      let (i, target, a, is) = turns.named n (subst (λ (sys : Sys). Allows sys s.here.t s.here.e n) means.system requested) in
       request_is n (record { target = i; action = a }) is.request
 
   -- the action is allowed where its target allows it, and the same services serve it and take the same steps
@@ -133,7 +133,7 @@ module _ (said : PlainTargets) (library : PlainLibrary) (s : Situation) (combine
       }
 
   tells_target : (event : Result LineShape LineError) (text : List ℕ) (new : State) → TurnsInto here event text new → TellsTarget said here event text new
-  tells_target (Ok (ask action)) text new turn =
+  tells_target (Ok (request action)) text new turn =
       let great = means.great s.here known.situation.here in
       needs_same turn (λ (n, named, asks). (n, named)) (λ (n, named) rest.
       let at = request_there n (slice_get_within s.parts.environment.actions n action named) in
@@ -148,19 +148,19 @@ module _ (said : PlainTargets) (library : PlainLibrary) (s : Situation) (combine
           )),
         )),
       ))
-  tells_target (Ok (hand service)) text new turn =
+  tells_target (Ok (delegate service)) text new turn =
       needs_same turn (λ place. place) (λ (k, there) rest. (
         (k, there),
-        needs_same rest (λ (n, asked, asks). (n, asked)) (λ (n, asked) rest.
-            let at = request_open n (subst (IsOpenGreat here) asked (open_great s known.situation)).1 in
+        needs_same rest (λ (n, requested, asks). (n, requested)) (λ (n, requested) rest.
+            let at = request_open n (subst (IsOpenGreat here) requested (open_great s known.situation)).1 in
             let served = (same n at).1 k in
-            ((n, asked, at.asks), needs_same rest served.1 (λ one rest. (served.0 one, rest)))),
+            ((n, requested, at.asks), needs_same rest served.1 (λ one rest. (served.0 one, rest)))),
       ))
-  tells_target (Ok (saw state env)) text new turn =
-      needs_same turn (λ (n, k, handed, asks). (n, k, handed)) (λ (n, k, handed) rest.
-      let (great, allowed, served) = subst (IsOpenGreat here) handed (open_great s known.situation) in
+  tells_target (Ok (observe state env)) text new turn =
+      needs_same turn (λ (n, k, delegated, asks). (n, k, delegated)) (λ (n, k, delegated) rest.
+      let (great, allowed, served) = subst (IsOpenGreat here) delegated (open_great s known.situation) in
       let at = request_open n allowed in (
-        (n, k, handed, at.asks),
+        (n, k, delegated, at.asks),
         needs_same rest (λ place. place) (λ (b, there) rest. (
           (b, there),
           needs_same rest (λ place. place) (λ (e, named) rest.

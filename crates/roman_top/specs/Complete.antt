@@ -11,7 +11,7 @@ use Rattle.roman_opening.specs.Opening.{Accepted, document_opening, library_syst
 use Rattle.roman_opening.specs.declared.status.Status.TheVariants as status
 use Rattle.roman_opening.specs.declared.status.Status.{Status}
 use Rattle.roman_top.specs.Command.{Job, Synth, Run, Certify, Check, Shortest, Advise, Resilience, Command, On, Make}
-use Rattle.roman_top.specs.Advice.{Affords}
+use Rattle.roman_top.specs.AdviseText.{Affords}
 use Rattle.roman_top.specs.Run.{WithTexts}
 use Rattle.roman_top.specs.World.{World}
 

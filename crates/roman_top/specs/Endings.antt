@@ -1,6 +1,7 @@
 -- How the parts of a run end: what was written by then, by the status that they return.
 use Rattle.std.specs.Prelude.{◌≡◌, ℕ, Bool, true, false, List, [], Option, Result, Ok, Err, OnOk, IsErrOf}
 use Rattle.roman_io.specs.Shelf.{Texts, shelf_text}
+use Rattle.roman_io.specs.declared.sink.Sink.{Ghosts as SinkView}
 use Rattle.roman_model.specs.Arena.{Arena}
 use Rattle.roman_model.specs.Certificate.{TooLong, cert_verdict}
 use Rattle.roman_check.specs.Verdicts.{verdict_of}
@@ -21,6 +22,10 @@ use Rattle.roman_top.specs.Run.{SaysVerdict, JobDoes}
 pub record Prints (IsRun : List ℕ → Status → Type 0) (old : Option (List ℕ)) (faults : ℕ) (new : Option (List ℕ)) (faults_now : ℕ) (result : Status) : Type 0 where
   pub ends : (told : Option Texts) (shelf : ℕ) → Ends (λ texts. IsRun) (outputs told shelf old faults) (outputs told shelf new faults_now) result
 
+-- the same by a sink, in words for contracts at a bound `O: Sink`
+abbrev pub PrintsTo : {X : Type 0} → SinkView X → (List ℕ → Status → Type 0) → X → X → Status → Type 0
+PrintsTo O IsRun old new result = Prints IsRun (O.written old) (O.faults old) (O.written new) (O.faults new) result
+
 -- what a job on the document of that name does, with a shelf and a sink alone
 pub record DoesJob (name : List ℕ) (job : Job) (old new : Outputs) (result : Status) : Type 0 where
   pub ends : Ends (λ texts. OnOpening (JobDoes job texts []) (document_opening texts name)) old new result
@@ -37,18 +42,18 @@ abbrev pub GoesOnFrom : StreamState → Cursor → Type 0
 GoesOnFrom old new = (has : Option (List ℕ)) × GoesOn old (record { cursor = new; rest = has })
 
 -- what was written of a session that was read from a text of the shelf, by its result
-pub record HearsText (old : StreamState) (new : Cursor) (result : Result (Unit {0}) HearError) : Type 0 where
+pub record RunsText (old : StreamState) (new : Cursor) (result : Result (Unit {0}) HearError) : Type 0 where
   pub ok : OnOk result (IsHeardOut old new)
   pub too_long : IsErrOf result hear.TooLong → IsCutOff old new
   pub read_fault : IsErrOf result hear.ReadFault → GoesOnFrom old new
   pub prefix : IsErrOf result hear.WriteFault → AreBehaviours old.cursor.situation.parts → TellsPrefixOfAll old new.written
 
 -- the status after a session, with `fault` for a failed read
-abbrev pub heard_status : Status → Result (Unit {0}) HearError → Status
-heard_status fault (Ok x) = status.Done
-heard_status fault (Err hear.ReadFault) = fault
-heard_status fault (Err hear.WriteFault) = status.WriteFault
-heard_status fault (Err hear.TooLong) = status.TooLong
+abbrev pub run_status : Status → Result (Unit {0}) HearError → Status
+run_status fault (Ok x) = status.Done
+run_status fault (Err hear.ReadFault) = fault
+run_status fault (Err hear.WriteFault) = status.WriteFault
+run_status fault (Err hear.TooLong) = status.TooLong
 
 -- ---- certificates
 

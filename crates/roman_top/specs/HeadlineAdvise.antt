@@ -1,5 +1,5 @@
 -- What `advise` writes: the least worst costs of plans in which each action goes to a service that serves it.
-use Rattle.std.specs.Prelude.{◌≡◌, ℕ, ◌<◌, ◌≤◌, ◌*◌, false, List, length, Ok, Err}
+use Rattle.std.specs.Prelude.{◌≡◌, ℕ, ◌<◌, ◌≤◌, ◌*◌, false, List, Ok, Err}
 use Rattle.roman_io.specs.Shelf.{Texts}
 use Rattle.roman_model.specs.System.{Pair}
 use Rattle.roman_model.specs.Composition.{Great}
@@ -32,6 +32,6 @@ pub record AdvisesBy (n : NamedSys) (listed : List Listed) (requests : ℕ) (p :
   pub told : Great (system_of n) p → related * requests ≤ MAX_VALUES → TellsLeast n (seat_costs n listed) requests p text × (result ≡ status.Done)
 
 -- advise: costs that are refused get their refusal line; accepted costs get the advice for the starting states
-pub record KeepsAdvice (costs : List ℕ) (requests : ℕ) (texts : Texts) (library : PlainLibrary) (text : List ℕ) (result : Status) : Type 0 where
+pub record KeepsAdvise (costs : List ℕ) (requests : ℕ) (texts : Texts) (library : PlainLibrary) (text : List ℕ) (result : Status) : Type 0 where
   pub refused : (error : PartError) → costs_of texts costs (parts_of library) ≡ Err error → EndsSaying (refusal_line (refusal_of costs part.Costs error)) status.Refused text result
   pub advised : (listed : List Listed) → costs_of texts costs (parts_of library) ≡ Ok listed → AdvisesBy (parts_of library) listed requests (start_pair_of library) text result

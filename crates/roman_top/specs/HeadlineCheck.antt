@@ -15,7 +15,7 @@ use Rattle.roman_opening.specs.Opening.{library_system}
 use Rattle.roman_opening.specs.declared.status.Status.TheVariants as status
 use Rattle.roman_opening.specs.declared.status.Status.{Status}
 use Rattle.roman_top.specs.HeadlineCertify.{ListsUnrelated, CertifiesUnrelated}
-use Rattle.roman_top.specs.Verdicts.{greatest_text, rejected_text}
+use Rattle.roman_top.specs.CheckText.{greatest_text, rejected_text}
 
 -- the text says how many pairs are related, and whether the given pair is
 pub record TellsGreatest (s : Sys) (p : Pair) (text : List ℕ) : Type 0 where
@@ -37,5 +37,5 @@ pub record JudgesCertificate (s : Sys) (p : Pair) (certificate text : List ℕ) 
   pub others : (result ≡ status.Done → ⊥) → ((line : ℕ) × (why : Why) × (text ≡ rejected_text line why) × (result ≡ status.No)) ⊎ ((text ≡ []) × (result ≡ status.TooLong))
 
 -- check: the verdict on the certificate for the library's system
-abbrev pub KeepsVerdict : List ℕ → PlainLibrary → List ℕ → Status → Type 0
-KeepsVerdict certificate library text result = JudgesCertificate (library_system library) (start_pair_of library) certificate text result
+abbrev pub KeepsCheck : List ℕ → PlainLibrary → List ℕ → Status → Type 0
+KeepsCheck certificate library text result = JudgesCertificate (library_system library) (start_pair_of library) certificate text result

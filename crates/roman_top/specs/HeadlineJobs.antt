@@ -9,10 +9,10 @@ use Rattle.roman_opening.specs.Opening.{Accepted, document_opening, library_syst
 use Rattle.roman_opening.specs.declared.status.Status.TheVariants as status
 use Rattle.roman_opening.specs.declared.status.Status.{Status}
 use Rattle.roman_top.specs.Command.{Job, Certify, Check, Shortest, Advise, Resilience, Command, On, Make}
-use Rattle.roman_top.specs.HeadlineAdvise.{KeepsAdvice}
-use Rattle.roman_top.specs.HeadlineCertify.{KeepsCertificate}
-use Rattle.roman_top.specs.HeadlineCheck.{KeepsVerdict}
-use Rattle.roman_top.specs.HeadlineMake.{KeepsMade}
+use Rattle.roman_top.specs.HeadlineAdvise.{KeepsAdvise}
+use Rattle.roman_top.specs.HeadlineCertify.{KeepsCertify}
+use Rattle.roman_top.specs.HeadlineCheck.{KeepsCheck}
+use Rattle.roman_top.specs.HeadlineMake.{KeepsMake}
 use Rattle.roman_top.specs.HeadlineResilience.{KeepsResilience}
 use Rattle.roman_top.specs.World.{World}
 
@@ -23,10 +23,10 @@ KeepsShortest library text result = TellsDepths (library_system library) (start_
 
 -- each other command by the page with its name; the page `Headline` has `synth` and `run`
 abbrev pub KeepsJob : Job → Texts → PlainLibrary → List ℕ → Status → Type 0
-KeepsJob Certify texts library text result = KeepsCertificate library text result
-KeepsJob (Check certificate) texts library text result = KeepsVerdict (shelf_text texts certificate) library text result
+KeepsJob Certify texts library text result = KeepsCertify library text result
+KeepsJob (Check certificate) texts library text result = KeepsCheck (shelf_text texts certificate) library text result
 KeepsJob Shortest texts library text result = KeepsShortest library text result
-KeepsJob (Advise costs requests) texts library text result = KeepsAdvice costs requests texts library text result
+KeepsJob (Advise costs requests) texts library text result = KeepsAdvise costs requests texts library text result
 KeepsJob Resilience texts library text result = KeepsResilience library text result
 KeepsJob _ texts library text result = Unit {0}
 
@@ -35,5 +35,5 @@ KeepsJob _ texts library text result = Unit {0}
 abbrev pub KeepsText : Option Command → World → World → Status → Type 0
 KeepsText (Some (On system job)) old new result =
     IfSome old.texts (λ texts. (library : PlainLibrary) → document_opening texts system ≡ Accepted library → WritesText (KeepsJob job texts library) old.written new.written result)
-KeepsText (Some (Make n)) old new result = WritesText (KeepsMade n) old.written new.written result
+KeepsText (Some (Make n)) old new result = WritesText (KeepsMake n) old.written new.written result
 KeepsText None old new result = Unit {0}

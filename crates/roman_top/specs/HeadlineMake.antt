@@ -1,8 +1,7 @@
 -- What `make` writes: the figures of a session of the made system at each stage, in terms of the greatest ND-simulation.
-use Rattle.std.specs.Prelude.{◌≡◌, ◌↔◌, ℕ, Bool, List, [], ◌∷◌, ◌++◌, length, codes, IsTrue}
+use Rattle.std.specs.Prelude.{◌≡◌, ◌↔◌, ℕ, Bool, List, [], ◌∷◌, ◌++◌, codes, IsTrue}
 use Rattle.roman_model.specs.Composition.{Great}
 use Rattle.roman_model.specs.Counting.{Counts}
-use Rattle.roman_model.specs.System.{Pair}
 use Rattle.roman_model.specs.Numbers.{sizes_of, count}
 use Rattle.roman_joint.specs.NamedSys.{system_of}
 use Rattle.roman_library.specs.Library.{PlainLibrary}
@@ -11,7 +10,7 @@ use Rattle.roman_make.specs.Made.{made}
 use Rattle.roman_opening.specs.declared.status.Status.TheVariants as status
 use Rattle.roman_opening.specs.declared.status.Status.{Status}
 use Rattle.roman_top.specs.HeadlineTurns.{Turn, AreTurns, after_turns}
-use Rattle.roman_top.specs.Made.{stage_line, stages, made_line}
+use Rattle.roman_top.specs.MakeText.{stage_line, stages, made_line}
 
 -- a line says how many pairs the present system has, how many are related, and whether the current one is
 pub record TellsStanding (word : List ℕ) (s : State) (text : List ℕ) : Type 0 where
@@ -29,7 +28,7 @@ TellsStages library s (stage ∷ more) text =
     × TellsStages library (after_turns s turns) more rest × (text ≡ line ++ rest)
 
 -- make: the figures of the session of the made system at its start, and after the lines of each stage of the script
-pub record KeepsMade (n : ℕ) (text : List ℕ) (result : Status) : Type 0 where
+pub record KeepsMake (n : ℕ) (text : List ℕ) (result : Status) : Type 0 where
   pub rest : List ℕ
   pub tells : TellsStages (made n) (start_state (made n)) stages rest
   pub says : text ≡ made_line n ++ rest

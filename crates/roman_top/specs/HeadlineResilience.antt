@@ -14,7 +14,7 @@ use Rattle.roman_start.specs.Starts.{parts_of, start_pair_of}
 use Rattle.roman_opening.specs.Opening.{library_system}
 use Rattle.roman_opening.specs.declared.status.Status.TheVariants as status
 use Rattle.roman_opening.specs.declared.status.Status.{Status}
-use Rattle.roman_top.specs.Outlooks.{line_without, ones, twos, head_text}
+use Rattle.roman_top.specs.ResilienceText.{line_without, ones, twos, head_text}
 
 -- a pair, an action that is requested there, and a seat
 pub record Serving : Type 0 where

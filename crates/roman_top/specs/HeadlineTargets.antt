@@ -9,7 +9,7 @@ use Rattle.roman_model.specs.Composition.{Great}
 use Rattle.roman_model.specs.Several.{Several, CoupleAll, of_one, ServesAll, GreatAll}
 use Rattle.roman_model.specs.Combined.{couple_all}
 use Rattle.roman_model.specs.Explanation.{name_at, seat_names}
-use Rattle.roman_text.specs.Shapes.{LineShape, ask, hand, saw}
+use Rattle.roman_text.specs.Shapes.{LineShape, delegate, observe, request}
 use Rattle.roman_text.specs.declared.errors.LineError.{LineError}
 use Rattle.roman_text.specs.declared.replies.Reply.TheVariants as reply
 use Rattle.roman_joint.specs.NamedSys.{system_of}
@@ -20,7 +20,7 @@ use Rattle.roman_library.specs.Library.{PlainLibrary}
 use Rattle.roman_library.specs.Targets.{PlainTargets, NamesTargets}
 use Rattle.roman_session.specs.declared.phase.Phase.TheVariants.{Idle, Offered, Delegated}
 use Rattle.roman_hearing.specs.Several.{several_with}
-use Rattle.roman_session.specs.States.{State, start_state, MayAsk, ServesHere}
+use Rattle.roman_session.specs.States.{State, start_state, MayRequest, ServesHere}
 use Rattle.roman_session.specs.Turns.{Needs, Place, Refuses}
 use Rattle.roman_session.specs.Words.{Replies}
 use Rattle.roman_top.specs.Command.{Synth, Run, Command, On}
@@ -61,8 +61,8 @@ abbrev pub state_now : (said : PlainTargets) (s : State) (n : ℕ) → TargetAct
 state_now said s n asks = slice_index (couple_now said s).ts asks.place
 
 -- the target allows its action in its own state
-abbrev pub MayAskOne : (said : PlainTargets) (s : State) (n : ℕ) → TargetAction said s n → Type 0
-MayAskOne said s n asks = Allows (one_now said s n asks) (state_now said s n asks) s.here.e asks.action
+abbrev pub MayRequestOne : (said : PlainTargets) (s : State) (n : ℕ) → TargetAction said s n → Type 0
+MayRequestOne said s n asks = Allows (one_now said s n asks) (state_now said s n asks) s.here.e asks.action
 
 -- the service at place k serves the action for all targets: it can answer each of the target's steps, and each of its outcomes belongs to
 -- some ND-simulation of all targets
@@ -89,19 +89,19 @@ pub record MovesOne (said : PlainTargets) (s : State) (n : ℕ) (asks : TargetAc
 
 -- the three events of a request, target by target: their conditions in order, each with the reply that refuses it, and then what they do
 abbrev pub TellsTarget : PlainTargets → State → Result LineShape LineError → List ℕ → State → Type 0
-TellsTarget said s (Ok (ask action)) text new =
+TellsTarget said s (Ok (request action)) text new =
     Needs ((n : ℕ) × (slice_get s.parts.environment.actions n ≡ Some action) × TargetAction said s n) (Refuses s text new reply.ErrorName) (λ (n, named, asks).
     Needs (s.phase ≡ Idle) (Refuses s text new reply.ErrorBusy) (λ idle.
     Needs (IsGreatAll said s) (Refuses s text new reply.NoComposition) (λ great.
-    Needs (MayAskOne said s n asks) (Refuses s text new reply.NotAllowed) (λ may.
+    Needs (MayRequestOne said s n asks) (Refuses s text new reply.NotAllowed) (λ may.
     OffersServingAll said s n asks text × (new ≡ record s { phase = Offered n })))))
-TellsTarget said s (Ok (hand service)) text new =
+TellsTarget said s (Ok (delegate service)) text new =
     Needs (Place (map seat_name s.parts.seats) service) (Refuses s text new reply.ErrorName) (λ (k, there).
-    Needs ((n : ℕ) × (s.phase ≡ Offered n) × TargetAction said s n) (Refuses s text new reply.ErrorIdle) (λ (n, asked, asks).
+    Needs ((n : ℕ) × (s.phase ≡ Offered n) × TargetAction said s n) (Refuses s text new reply.ErrorIdle) (λ (n, requested, asks).
     Needs (ServesAllHere said s n asks k) (Refuses s text new reply.NotOffered) (λ serves.
     Replies (reply.Using service) text × (new ≡ record s { phase = Delegated n k }))))
-TellsTarget said s (Ok (saw state env)) text new =
-    Needs ((n : ℕ) × (k : ℕ) × (s.phase ≡ Delegated n k) × TargetAction said s n) (Refuses s text new reply.ErrorIdle) (λ (n, k, handed, asks).
+TellsTarget said s (Ok (observe state env)) text new =
+    Needs ((n : ℕ) × (k : ℕ) × (s.phase ≡ Delegated n k) × TargetAction said s n) (Refuses s text new reply.ErrorIdle) (λ (n, k, delegated, asks).
     Needs (Place (seat_names (names_in s.parts) k).states state) (Refuses s text new reply.ErrorName) (λ (b, there).
     Needs (Place s.parts.environment.states env) (Refuses s text new reply.ErrorName) (λ (e, named).
     Needs (SStep (one_now said s n asks) s.here.bs s.here.e asks.action k (slice_set s.here.bs k b) e) (Refuses s text new reply.Impossible) (λ possible.
@@ -112,7 +112,7 @@ TellsTarget said s _ text new = Unit {0}
 -- exactly those that serve it for all targets
 pub record MeansOne (said : PlainTargets) (s : State) (n : ℕ) : Type 0 where
   pub asks : TargetAction said s n
-  pub may : MayAsk s n ↔ MayAskOne said s n asks
+  pub may : MayRequest s n ↔ MayRequestOne said s n asks
   pub serves : (k : ℕ) → ServesHere s n k ↔ ServesAllHere said s n asks k
 
 -- a pair of the state's system is related exactly when some ND-simulation of all targets contains it; each action asks one of the targets
@@ -129,8 +129,8 @@ pub record IsTurnOfTargets (said : PlainTargets) (x : Turn) : Type 0 where
 -- ---- sessions and reports
 
 -- the lines of the session have their turns, each of them also target by target
-pub record HasAnsweredTargets (asked : Option Command) (library : PlainLibrary) (said : PlainTargets) (texts : Texts) (old new : World) : Type 0 where
-  pub answered : HasAnsweredLines asked library texts old new
+pub record HasAnsweredTargets (requested : Option Command) (library : PlainLibrary) (said : PlainTargets) (texts : Texts) (old new : World) : Type 0 where
+  pub answered : HasAnsweredLines requested library texts old new
   pub each : (x : Turn) → IsIn x answered.turns → IsTurnOfTargets said x
 
 -- what is promised of a session, and of the state on which a synthesis reports, if the document names several targets

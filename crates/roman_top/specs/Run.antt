@@ -17,11 +17,11 @@ use Rattle.roman_opening.specs.Opening.{EndsSaying, library_system, document_ope
 use Rattle.roman_opening.specs.declared.status.Status.TheVariants as status
 use Rattle.roman_opening.specs.declared.status.Status.{Status}
 use Rattle.roman_top.specs.Command.{Job, Synth, Run, Certify, Check, Shortest, Advise, Resilience, Command, On, Make, usage_line}
-use Rattle.roman_top.specs.Advice.{GivesAdvice}
-use Rattle.roman_top.specs.Made.{Summarises}
-use Rattle.roman_top.specs.Outlooks.{outlook_text}
+use Rattle.roman_top.specs.AdviseText.{DoesAdvise}
+use Rattle.roman_top.specs.MakeText.{MakesSummary}
+use Rattle.roman_top.specs.ResilienceText.{outlook_text}
 use Rattle.roman_top.specs.Sessions.{ToldFromStart}
-use Rattle.roman_top.specs.Verdicts.{greatest_text, rejected_text}
+use Rattle.roman_top.specs.CheckText.{greatest_text, rejected_text}
 use Rattle.roman_top.specs.World.{World}
 
 -- ---- what each command does; a job has an accepted document within its limit
@@ -33,8 +33,8 @@ EndsBy s p status.No = Great s p → ⊥
 EndsBy s p _ = ⊥
 
 -- synth: the report on the starting states
-abbrev pub Synthesises : PlainLibrary → List ℕ → Status → Type 0
-Synthesises library out result =
+abbrev pub DoesSynth : PlainLibrary → List ℕ → Status → Type 0
+DoesSynth library out result =
     (out ≡ report_text (parts_of library) (start_pair_of library)) × EndsBy (library_system library) (start_pair_of library) result
 
 -- the certificate of a complete removal list
@@ -44,8 +44,8 @@ pub record CertifiesSystem (s : Sys) (out : List ℕ) (result : Status) : Type 0
   pub says : EndsSaying (cert_text (count (sizes_of s)) list) status.Done out result
 
 -- certify: the certificate of the system
-abbrev pub Certifies : PlainLibrary → List ℕ → Status → Type 0
-Certifies library out result = CertifiesSystem (library_system library) out result
+abbrev pub DoesCertify : PlainLibrary → List ℕ → Status → Type 0
+DoesCertify library out result = CertifiesSystem (library_system library) out result
 
 -- the text and status for a verdict on a certificate
 abbrev pub SaysVerdict : Verdict → List ℕ → Status → Type 0
@@ -54,8 +54,8 @@ SaysVerdict (Rejected line why) out result = EndsSaying (rejected_text line why)
 SaysVerdict TooLong out result = EndsSaying [] status.TooLong out result
 
 -- check: the verdict on the certificate
-abbrev pub Checks : List ℕ → PlainLibrary → List ℕ → Status → Type 0
-Checks certificate library out result =
+abbrev pub DoesCheck : List ℕ → PlainLibrary → List ℕ → Status → Type 0
+DoesCheck certificate library out result =
     let s = library_system library in
     SaysVerdict (cert_verdict (numbered s) (number (sizes_of s) (start_pair_of library)) certificate) out result
 
@@ -65,30 +65,30 @@ abbrev pub TellsShortestOf : Sys → Pair → List ℕ → Status → Type 0
 TellsShortestOf s p out result = TellsDepths s p out × (result ≡ status.Done)
 
 -- shortest: the depths of the system's pairs, and the depth of the starting states
-abbrev pub TellsShortest : PlainLibrary → List ℕ → Status → Type 0
-TellsShortest library out result = TellsShortestOf (library_system library) (start_pair_of library) out result
+abbrev pub DoesShortest : PlainLibrary → List ℕ → Status → Type 0
+DoesShortest library out result = TellsShortestOf (library_system library) (start_pair_of library) out result
 
 -- resilience: the outlook of the starting states, and their outlook after services fail
-abbrev pub Foresees : PlainLibrary → List ℕ → Status → Type 0
-Foresees library out result = EndsSaying (outlook_text (parts_of library) (start_pair_of library)) status.Done out result
+abbrev pub DoesResilience : PlainLibrary → List ℕ → Status → Type 0
+DoesResilience library out result = EndsSaying (outlook_text (parts_of library) (start_pair_of library)) status.Done out result
 
 -- run: the replies to the lines of the session; of a session that is too long, to the lines that end within the limit
-abbrev pub Talks : List ℕ → PlainLibrary → List ℕ → Status → Type 0
-Talks session library out result = ToldFromStart library (heard_lines session) out × (result ≡ (if is_heard_out session then status.Done else status.TooLong))
+abbrev pub DoesRun : List ℕ → PlainLibrary → List ℕ → Status → Type 0
+DoesRun session library out result = ToldFromStart library (heard_lines session) out × (result ≡ (if is_heard_out session then status.Done else status.TooLong))
 
 -- make: the summary of the system of n workers
-abbrev pub Makes : ℕ → List ℕ → Status → Type 0
-Makes n out result = Summarises n out × (result ≡ status.Done)
+abbrev pub DoesMake : ℕ → List ℕ → Status → Type 0
+DoesMake n out result = MakesSummary n out × (result ≡ status.Done)
 
 -- what each job does
 abbrev pub JobDoes : Job → Texts → List ℕ → PlainLibrary → List ℕ → Status → Type 0
-JobDoes Synth texts session = Synthesises
-JobDoes (Run name) texts session = Talks session
-JobDoes Certify texts session = Certifies
-JobDoes (Check certificate) texts session = Checks (shelf_text texts certificate)
-JobDoes Shortest texts session = TellsShortest
-JobDoes (Advise costs requests) texts session = GivesAdvice costs requests texts
-JobDoes Resilience texts session = Foresees
+JobDoes Synth texts session = DoesSynth
+JobDoes (Run name) texts session = DoesRun session
+JobDoes Certify texts session = DoesCertify
+JobDoes (Check certificate) texts session = DoesCheck (shelf_text texts certificate)
+JobDoes Shortest texts session = DoesShortest
+JobDoes (Advise costs requests) texts session = DoesAdvise costs requests texts
+JobDoes Resilience texts session = DoesResilience
 
 -- ---- runs
 
@@ -96,7 +96,7 @@ JobDoes Resilience texts session = Foresees
 abbrev pub Runs : Option Command → Texts → List ℕ → List ℕ → Status → Type 0
 Runs None texts session out result = EndsSaying usage_line status.Usage out result
 Runs (Some (On system job)) texts session out result = OnOpening (JobDoes job texts session) (document_opening texts system) out result
-Runs (Some (Make n)) texts session out result = Makes n out result
+Runs (Some (Make n)) texts session out result = DoesMake n out result
 
 -- the bytes of the session: a text of the shelf, or the bytes that the input had
 abbrev pub IsSessionText : Option Command → Texts → Option (List ℕ) → List ℕ → Type 0

@@ -2,6 +2,9 @@
 use Rattle.std.specs.Prelude.{ℕ, List, [], Option}
 use Rattle.roman_io.specs.Shelf.{Texts}
 use Rattle.roman_io.specs.Sink.{Wrote}
+use Rattle.roman_io.specs.declared.shelf.Shelf.{Ghosts as ShelfView}
+use Rattle.roman_io.specs.declared.sink.Sink.{Ghosts as SinkView}
+use Rattle.roman_io.specs.declared.source.Source.{Ghosts as SourceView}
 use Rattle.roman_opening.specs.Outputs.{Outputs}
 
 -- the shelf's texts, the bytes that the input has left, what was written, and how often each has failed
@@ -23,6 +26,10 @@ world texts shelf_faults rest input_faults written out_faults = record {
   input_faults = input_faults;
   out_faults = out_faults;
 }
+
+-- the outside as far as its types expose it, in words for contracts at bounds `F: Shelf`, `I: Source` and `O: Sink`
+abbrev pub world_of : {F I O : Type 0} → ShelfView F → SourceView I → SinkView O → F → I → O → World
+world_of F I O shelf input out = world (F.texts shelf) (F.faults shelf) (I.rest input) (I.faults input) (O.written out) (O.faults out)
 
 -- the outside with this shelf, this sink and an input from its parts
 abbrev pub beside : Outputs → Option (List ℕ) → ℕ → World

@@ -1,32 +1,21 @@
 //! The command `advise SYSTEM COSTS H`.
-ghost use Rattle.std.specs.Prelude.{◌≡◌, ℕ, ◌<◌, ◌≤◌, false, length, Ok, Option, IfOk};
-ghost use Rattle.roman_io.specs.Faults.{HasCause};
-ghost use Rattle.roman_io.specs.Shelf.{Texts};
-ghost use Rattle.roman_io.specs.Sink.{Puts};
-ghost use Rattle.roman_model.specs.Numbers.{sizes_of, count, pair_at};
+ghost use Rattle.std.specs.Prelude.{◌≡◌, ◌≤◌, false, length, IfOk};
+ghost use Rattle.roman_io.specs.SinkCalls.{WritesTo, FailsWith};
 ghost use Rattle.roman_model.specs.declared.limits.TheConstants.{MAX_BEHAVIOURS};
 ghost use Rattle.roman_parts.specs.declared.error.PartError.TheVariants as part_error;
-ghost use Rattle.roman_joint.specs.NamedSys.{system_of};
-ghost use Rattle.roman_library.specs.Refusals.{refusal_of};
-ghost use Rattle.roman_library.specs.declared.refusal.Part.TheVariants as part;
 ghost use Rattle.roman_relation.specs.Greatest.{IsRelation};
-ghost use Rattle.roman_cost.specs.AdviceText.{advised_by};
-ghost use Rattle.roman_cost.specs.Costs.{costs_of};
+ghost use Rattle.roman_cost.specs.NamedWords.{IsPairNumber};
 ghost use Rattle.roman_cost.specs.Refusals.{place_of_rule};
 ghost use Rattle.roman_cost.specs.Tables.{AreOf};
 ghost use Rattle.roman_text.specs.Report.{line_text};
 ghost use Rattle.roman_text.specs.declared.report.ReportLine.TheVariants as line;
-ghost use Rattle.roman_opening.specs.Endings.{EndsEarly, Opens};
-ghost use Rattle.roman_opening.specs.Opening.{EndsSaying};
-ghost use Rattle.roman_opening.specs.Outputs.{outputs};
-ghost use Rattle.roman_opening.specs.RefusalLine.{refusal_line};
-ghost use Rattle.roman_opening.specs.declared.status.Status.TheVariants as status;
-ghost use Rattle.roman_top.specs.Advice.{OnCosts, SaysAdvice};
+ghost use Rattle.roman_opening.specs.Outputs.{outputs_of};
 ghost use Rattle.roman_top.specs.Command.{Advise};
-ghost use Rattle.roman_top.specs.Endings.{DoesJob, Prints};
+ghost use Rattle.roman_top.specs.ContractWords.{OpensCosts, PrintsAdvice, RefusesCosts};
+ghost use Rattle.roman_top.specs.Endings.{DoesJob};
 
+use crate::check_text::answer_line;
 use crate::requests::Requests;
-use crate::verdicts::answer_line;
 use roman_cost::{Advice, AdviceError, CostError, Costs, MAX_VALUES, put_advice, read_costs};
 use roman_io::{Failed, Shelf, Sink, Steps};
 use roman_joint::Joint;
@@ -53,8 +42,7 @@ pub(crate) fn advise<F: Shelf, O: Sink, L: Ledger>(
     steps: &mut Steps<L>,
 ) -> Status
     ensures { DoesJob system.now (Advise costs.now requests.count)
-        (outputs (F.texts shelf.old) (F.faults shelf.old) (O.written out.old) (O.faults out.old))
-        (outputs (F.texts shelf.new) (F.faults shelf.new) (O.written out.new) (O.faults out.new)) result }
+        (outputs_of F.Shelf O.Sink shelf.old out.old) (outputs_of F.Shelf O.Sink shelf.new out.new) result }
 {
     let seated = match open_system(alloc, system, shelf, out) {
         Ok(seated) => seated,
@@ -76,9 +64,8 @@ fn open_costs<F: Shelf, O: Sink>(
     out: &mut O,
 ) -> Result<Costs, Status>
     requires { length joint.now.catalogue ≤ MAX_BEHAVIOURS }
-    ensures opens { Opens (λ texts costs. costs_of texts name.now joint.now ≡ Ok costs.listed) (λ texts. OnCosts name.now (λ listed out result. ⊥) (costs_of texts name.now joint.now))
-        (outputs (F.texts shelf.old) (F.faults shelf.old) (O.written out.old) (O.faults out.old))
-        (outputs (F.texts shelf.new) (F.faults shelf.new) (O.written out.new) (O.faults out.new)) result }
+    ensures opens { OpensCosts name.now joint.now
+        (outputs_of F.Shelf O.Sink shelf.old out.old) (outputs_of F.Shelf O.Sink shelf.new out.new) result }
     ensures of { IfOk result (AreOf joint.now) }
 {
     match read_costs(alloc, shelf, name, joint) {
@@ -100,9 +87,8 @@ fn refuse<O: Sink>(
     index: u32,
     out: &mut O,
 ) -> Status
-    ensures { (told : Option Texts) (shelf : ℕ) → EndsEarly (λ texts. EndsSaying (refusal_line (refusal_of name.now part.Costs (part_error.Refused kind (place_of_rule whole) index))) status.Refused)
-        (outputs told shelf (O.written out.old) (O.faults out.old))
-        (outputs told shelf (O.written out.new) (O.faults out.new)) result }
+    ensures { let error = part_error.Refused kind (place_of_rule whole) index in
+        RefusesCosts O.Sink name.now error out.old out.new result }
 {
     let Ok(document) = FileName::new(alloc, name) else {
         return Status::Memory;
@@ -134,9 +120,8 @@ fn tell_costs<O: Sink, L: Ledger>(
     steps: &mut Steps<L>,
 ) -> Status
     requires costs { AreOf seated.joint costs.now }
-    requires start { seated.start < count (sizes_of (system_of seated.joint)) }
-    ensures { Prints (SaysAdvice (advised_by seated.joint costs.now.listed requests.count (pair_at (sizes_of (system_of seated.joint)) seated.start)))
-        (O.written out.old) (O.faults out.old) (O.written out.new) (O.faults out.new) result }
+    requires start { IsPairNumber seated.joint seated.start }
+    ensures { PrintsAdvice O.Sink seated.joint costs.now.listed requests.count seated.start out.old out.new result }
 {
     let Seated { joint, start, .. } = seated;
     match Relation::build(alloc, joint, steps) {
@@ -156,9 +141,8 @@ fn tell_relation<O: Sink>(
 ) -> Status
     requires relation { IsRelation relation.now.joint relation.now.order }
     requires costs { AreOf relation.now.joint costs.now }
-    requires start { start < count (sizes_of (system_of relation.now.joint)) }
-    ensures { Prints (SaysAdvice (advised_by relation.now.joint costs.now.listed requests.count (pair_at (sizes_of (system_of relation.now.joint)) start)))
-        (O.written out.old) (O.faults out.old) (O.written out.new) (O.faults out.new) result }
+    requires start { IsPairNumber relation.now.joint start }
+    ensures { PrintsAdvice O.Sink relation.now.joint costs.now.listed requests.count start out.old out.new result }
 {
     relation.joint.known(); // the system is well formed
     if !relation.related(start) {
@@ -176,8 +160,8 @@ fn tell_relation<O: Sink>(
 
 /// Writes the line `answer none`.
 fn put_unrelated<O: Sink>(out: &mut O) -> Result<(), Failed>
-    ensures puts { Puts (O.written out.old) (O.written out.new) (line_text (line.Answer false)) result }
-    ensures cause { HasCause (O.faults out.old) (O.faults out.new) result }
+    ensures puts { WritesTo O.Sink out.old out.new (line_text (line.Answer false)) result }
+    ensures cause { FailsWith O.Sink out.old out.new result }
 {
     out.put(answer_line(false))
 }

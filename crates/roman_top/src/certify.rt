@@ -1,5 +1,5 @@
 //! The command `certify SYSTEM`.
-ghost use Rattle.roman_opening.specs.Outputs.{outputs};
+ghost use Rattle.roman_opening.specs.Outputs.{outputs_of};
 ghost use Rattle.roman_top.specs.Command.{Certify};
 ghost use Rattle.roman_top.specs.Endings.{DoesJob};
 
@@ -19,8 +19,7 @@ pub(crate) fn certify<F: Shelf, O: Sink, L: Ledger>(
     steps: &mut Steps<L>,
 ) -> Status
     ensures { DoesJob system.now Certify
-        (outputs (F.texts shelf.old) (F.faults shelf.old) (O.written out.old) (O.faults out.old))
-        (outputs (F.texts shelf.new) (F.faults shelf.new) (O.written out.new) (O.faults out.new)) result }
+        (outputs_of F.Shelf O.Sink shelf.old out.old) (outputs_of F.Shelf O.Sink shelf.new out.new) result }
 {
     match open_relation(alloc, system, shelf, out, steps) {
         Ok(related) => finish(write_order(&related.relation, out), Status::Done),

@@ -1,15 +1,15 @@
 //! The command `check SYSTEM CERT`.
-ghost use Rattle.std.specs.Prelude.{ℕ, ◌<◌, List, Option};
-ghost use Rattle.roman_model.specs.Numbers.{sizes_of, count, numbered};
+ghost use Rattle.std.specs.Prelude.{◌<◌};
+ghost use Rattle.roman_model.specs.Numbers.{sizes_of, count};
 ghost use Rattle.roman_check.specs.Verdicts.{verdict_of};
 ghost use Rattle.roman_joint.specs.NamedSys.{system_of};
-ghost use Rattle.roman_opening.specs.Endings.{Opens};
-ghost use Rattle.roman_opening.specs.Outputs.{outputs};
+ghost use Rattle.roman_opening.specs.Outputs.{outputs_of};
 ghost use Rattle.roman_top.specs.Command.{Check};
-ghost use Rattle.roman_top.specs.Endings.{DoesJob, FindsVerdict, IsTooLong, Prints};
+ghost use Rattle.roman_top.specs.ContractWords.{OpensVerdict};
+ghost use Rattle.roman_top.specs.Endings.{DoesJob, PrintsTo};
 ghost use Rattle.roman_top.specs.Run.{SaysVerdict};
 
-use crate::verdicts::{put_greatest, put_rejected};
+use crate::check_text::{put_greatest, put_rejected};
 use roman_check::{CheckError, Verdict, check};
 use roman_io::{Shelf, ShelfSource, Sink, Steps};
 use roman_opening::{Status, finish, open_system};
@@ -17,9 +17,10 @@ use roman_start::Seated;
 use std::alloc::Global;
 use std::sync::ledger::Ledger;
 
-/// Checks a certificate on the shelf against the system, and writes the verdict.
+/// Checks the certificate of that name for the system document of that name, and writes the verdict. The status
+/// says whether it is right and complete. Fails as a run of `check` does, with its line.
 #[tactic(auto, using(crate::proofs::OpeningLemmas::early_does))]
-pub(crate) fn check_certificate<F: Shelf, O: Sink, L: Ledger>(
+pub fn check_certificate<F: Shelf, O: Sink, L: Ledger>(
     alloc: Global,
     system: &str,
     certificate: &str,
@@ -28,8 +29,7 @@ pub(crate) fn check_certificate<F: Shelf, O: Sink, L: Ledger>(
     steps: &mut Steps<L>,
 ) -> Status
     ensures { DoesJob system.now (Check certificate.now)
-        (outputs (F.texts shelf.old) (F.faults shelf.old) (O.written out.old) (O.faults out.old))
-        (outputs (F.texts shelf.new) (F.faults shelf.new) (O.written out.new) (O.faults out.new)) result }
+        (outputs_of F.Shelf O.Sink shelf.old out.old) (outputs_of F.Shelf O.Sink shelf.new out.new) result }
 {
     let seated = match open_system(alloc, system, shelf, out) {
         Ok(seated) => seated,
@@ -43,7 +43,7 @@ pub(crate) fn check_certificate<F: Shelf, O: Sink, L: Ledger>(
 
 /// Writes a verdict.
 fn tell<O: Sink>(verdict: Verdict, out: &mut O) -> Status
-    ensures { Prints (SaysVerdict (verdict_of verdict)) (O.written out.old) (O.faults out.old) (O.written out.new) (O.faults out.new) result }
+    ensures { PrintsTo O.Sink (SaysVerdict (verdict_of verdict)) out.old out.new result }
 {
     match verdict {
         Verdict::Greatest { related, start } => {
@@ -63,9 +63,7 @@ fn verdict_on<F: Shelf, L: Ledger>(
     steps: &mut Steps<L>,
 ) -> Result<Verdict, Status>
     requires { seated.now.start < count (sizes_of (system_of seated.now.joint)) }
-    ensures { (written : Option (List ℕ)) (faults : ℕ) →
-        Opens (FindsVerdict (numbered (system_of seated.now.joint)) seated.now.start name.now) (IsTooLong (numbered (system_of seated.now.joint)) seated.now.start name.now)
-        (outputs (F.texts shelf.old) (F.faults shelf.old) written faults) (outputs (F.texts shelf.new) (F.faults shelf.new) written faults) result }
+    ensures { OpensVerdict F.Shelf seated.now.joint seated.now.start name.now shelf.old shelf.new result }
 {
     let mut source = ShelfSource::new(shelf, name);
     match check(alloc, &seated.joint, seated.start, &mut source, steps) {

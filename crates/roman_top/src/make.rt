@@ -1,8 +1,8 @@
 //! The command `make N`.
-ghost use Rattle.roman_top.specs.Endings.{Prints};
-ghost use Rattle.roman_top.specs.Run.{Makes};
+ghost use Rattle.roman_top.specs.Endings.{PrintsTo};
+ghost use Rattle.roman_top.specs.Run.{DoesMake};
 
-use crate::summary::{put_summary, run_script};
+use crate::make_text::{put_summary, run_script};
 use crate::workers::Workers;
 use roman_io::{Sink, Steps};
 use roman_make::{MakeError, make};
@@ -12,13 +12,13 @@ use std::alloc::Global;
 use std::sync::ledger::Ledger;
 
 /// Makes a system of that many workers, runs the script on a session of it, and writes the summary.
-pub(crate) fn summarise<O: Sink, L: Ledger>(
+pub(crate) fn make_summary<O: Sink, L: Ledger>(
     alloc: Global,
     workers: Workers,
     out: &mut O,
     steps: &mut Steps<L>,
 ) -> Status
-    ensures { Prints (Makes workers.count) (O.written out.old) (O.faults out.old) (O.written out.new) (O.faults out.new) result }
+    ensures { PrintsTo O.Sink (DoesMake workers.count) out.old out.new result }
 {
     let n = workers.count;
     let library = match make(alloc, n) {

@@ -1,5 +1,5 @@
 //! The command `shortest SYSTEM`.
-ghost use Rattle.roman_opening.specs.Outputs.{outputs};
+ghost use Rattle.roman_opening.specs.Outputs.{outputs_of};
 ghost use Rattle.roman_top.specs.Command.{Shortest};
 ghost use Rattle.roman_top.specs.Endings.{DoesJob};
 
@@ -20,8 +20,7 @@ pub(crate) fn shortest<F: Shelf, O: Sink, L: Ledger>(
     steps: &mut Steps<L>,
 ) -> Status
     ensures { DoesJob system.now Shortest
-        (outputs (F.texts shelf.old) (F.faults shelf.old) (O.written out.old) (O.faults out.old))
-        (outputs (F.texts shelf.new) (F.faults shelf.new) (O.written out.new) (O.faults out.new)) result }
+        (outputs_of F.Shelf O.Sink shelf.old out.old) (outputs_of F.Shelf O.Sink shelf.new out.new) result }
 {
     let related = match open_relation(alloc, system, shelf, out, steps) {
         Ok(related) => related,

@@ -1,6 +1,6 @@
 //! The command `synth SYSTEM`.
 ghost use Rattle.std.specs.Prelude.{◌≡◌};
-ghost use Rattle.roman_opening.specs.Outputs.{outputs};
+ghost use Rattle.roman_opening.specs.Outputs.{outputs_of};
 ghost use Rattle.roman_top.specs.Command.{Synth};
 ghost use Rattle.roman_top.specs.Endings.{DoesJob, status_of};
 
@@ -9,9 +9,10 @@ use roman_opening::{Status, finish, open_session};
 use std::alloc::Global;
 use std::sync::ledger::Ledger;
 
-/// Writes the report on the starting states. The status says whether the start pair is related.
+/// Writes the report on the starting states of the system document of that name. The status says whether the
+/// start pair is related. Fails as a run of `synth` does, with its line.
 #[tactic(auto, using(crate::proofs::OpeningLemmas::early_does))]
-pub(crate) fn synthesise<F: Shelf, O: Sink, L: Ledger>(
+pub fn synth_report<F: Shelf, O: Sink, L: Ledger>(
     alloc: Global,
     system: &str,
     shelf: &mut F,
@@ -19,8 +20,7 @@ pub(crate) fn synthesise<F: Shelf, O: Sink, L: Ledger>(
     steps: &mut Steps<L>,
 ) -> Status
     ensures { DoesJob system.now Synth
-        (outputs (F.texts shelf.old) (F.faults shelf.old) (O.written out.old) (O.faults out.old))
-        (outputs (F.texts shelf.new) (F.faults shelf.new) (O.written out.new) (O.faults out.new)) result }
+        (outputs_of F.Shelf O.Sink shelf.old out.old) (outputs_of F.Shelf O.Sink shelf.new out.new) result }
 {
     let session = match open_session(alloc, system, shelf, out, steps) {
         Ok(session) => session,

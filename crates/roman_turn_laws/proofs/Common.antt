@@ -13,13 +13,13 @@ pub use Rattle.roman_document_laws.specs.Accepted.{AcceptedCanBeSaid, AcceptedNa
 pub use Rattle.roman_document_laws.specs.DocumentWriter.{IsSayable, LibrariesAreSaid}
 pub use Rattle.roman_document_laws.specs.PartWriter.{IsSayableTarget}
 pub use Rattle.roman_document_laws.specs.SeveralWriter.{AreSayable, SeveralAreSaid, combined_library}
-pub use Rattle.roman_hearing.proofs.CallerLemmas.{count_fixed, sublists_same}
+pub use Rattle.roman_hearing.proofs.CallerLemmas.{count_fixed, needs_elim, sublists_same, unless_elim}
 pub use Rattle.roman_session.proofs.CallerLemmas.{services_again}
 pub use Rattle.roman_session.specs.Afresh.{afresh, services_in}
 pub use Rattle.roman_hearing.specs.Events.{IsComment, Reads}
 pub use Rattle.roman_hearing.specs.Laws.{ReportsAreFixed}
 pub use Rattle.roman_session.specs.Refutations.{AreLost, IsLost, MayAnswer, WinsBy}
-pub use Rattle.roman_session.specs.States.{IsGreat, IsState, MayAsk, ServesHere, State, start_state}
+pub use Rattle.roman_session.specs.States.{IsGreat, IsState, MayRequest, ServesHere, State, start_state}
 pub use Rattle.roman_session.specs.Turns.{ComesTo, Needs, Place, Refuses, TurnsInto, Unless, with_services}
 pub use Rattle.roman_session.specs.Words.{AreServing, CountsLost, IsReady, OffersServing, Refutes, Replies, ReportsGreat}
 pub use Rattle.roman_io.specs.Shelf.{Texts}
@@ -59,7 +59,7 @@ pub use Rattle.roman_session.specs.declared.phase.Phase.{Phase}
 pub use Rattle.roman_session.specs.declared.phase.Phase.TheVariants.{Delegated, Idle, Offered}
 pub use Rattle.roman_start.specs.Starts.{parts_of, seat_of_service, state_of_service}
 pub use Rattle.roman_text.specs.Replies.{reply_text}
-pub use Rattle.roman_text.specs.Shapes.{LineShape, abort, ask, by_words, die, explain, freeze, hand, join, jump, jump_env, nothing, quit, report, saw, shape_of_words, spelling, thaw, words_of}
+pub use Rattle.roman_text.specs.Shapes.{LineShape, abort, by_words, delegate, die, explain, freeze, join, jump, jump_env, nothing, observe, quit, report, request, shape_of_words, spelling, thaw, words_of}
 pub use Rattle.roman_text.specs.declared.errors.LineError.{LineError}
 pub use Rattle.roman_text.specs.declared.replies.Reply.{Reply}
 pub use Rattle.roman_top.proofs.CallerLemmas.{library_parts}

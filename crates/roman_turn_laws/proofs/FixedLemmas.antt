@@ -1,5 +1,5 @@
 -- A turn fixes its new state and its text, but for the split of a count and the entries of an explanation.
-use Rattle.roman_turn_laws.proofs.Common.{◌≡◌, ℕ, zero, suc, ◌≤◌, Bool, true, false, not, List, [], ◌∷◌, ◌++◌, map, length, Some, slice_get, slice_index_or, slice_set, remove, refl, sym, ap, ◌∙◌, subst, arith, codes, ◌⊎◌, inl, inr, IsTrue, Result, Ok, Err, AllZip, starts_with, nat_eq, strip_carriage_return, cond-true, none-some, same_Some, words_of, spelling, shape_of_words, by_words, LineShape, nothing, ask, hand, saw, abort, freeze, thaw, die, join, jump, jump_env, report, explain, quit, reply_text, LineError, HasNoRepeats-below, get_in, IsIn, HasNoRepeats, below, Sys, SStep, has_move, IsDeterministic, name_at, seat_names, NamedBeh, NamedSys, system_of, cells, with_frozen, seat_name, beh_name, names_in, names_of_seat, states_of_behaviour, Seat, Phase, Idle, Offered, Delegated, count_fixed, sublists_same, ReportsAreFixed, PlainLibrary, Reads, IsComment, State, IsState, MayAsk, ServesHere, Turn, AreTurns, TurnsInto, Needs, Unless, Place, with_services, OffersServing, CountsLost, IsReady, AcceptedNamesAreClear, HasClearNames, state_at, IsSameTurn, CountTheSame, SayAlike, TurnsAreFixed, IsFixedTurn, SessionsAreFixed, IsLikeTurn, ResumedSayAlike}
+use Rattle.roman_turn_laws.proofs.Common.{◌≡◌, ℕ, zero, suc, ◌≤◌, Bool, true, false, not, List, [], ◌∷◌, ◌++◌, map, length, Some, slice_get, slice_index_or, slice_set, remove, refl, sym, ap, ◌∙◌, subst, arith, codes, ◌⊎◌, inl, inr, IsTrue, Result, Ok, Err, AllZip, starts_with, nat_eq, strip_carriage_return, cond-true, none-some, same_Some, words_of, spelling, shape_of_words, by_words, LineShape, nothing, request, delegate, observe, abort, freeze, thaw, die, join, jump, jump_env, report, explain, quit, reply_text, LineError, HasNoRepeats-below, get_in, IsIn, HasNoRepeats, below, Sys, SStep, has_move, IsDeterministic, name_at, seat_names, NamedBeh, NamedSys, system_of, cells, with_frozen, seat_name, beh_name, names_in, names_of_seat, states_of_behaviour, Seat, Phase, Idle, Offered, Delegated, count_fixed, sublists_same, ReportsAreFixed, PlainLibrary, Reads, IsComment, State, IsState, MayRequest, ServesHere, Turn, AreTurns, TurnsInto, Needs, Unless, Place, with_services, OffersServing, CountsLost, IsReady, AcceptedNamesAreClear, HasClearNames, state_at, IsSameTurn, CountTheSame, SayAlike, TurnsAreFixed, IsFixedTurn, SessionsAreFixed, IsLikeTurn, ResumedSayAlike}
 use Rattle.std.specs.List.{flat_map}
 use Rattle.roman_text.specs.declared.replies.Reply.TheVariants as reply
 use Rattle.roman_turn_laws.proofs.ResumedLemmas.{sessions_resume}
@@ -127,27 +127,27 @@ module _ (fixed : ReportsAreFixed) (s new also : State) (text other : List ℕ) 
   both : (event : Result LineShape LineError) → TurnsInto s event text new → TurnsInto s event other also → Same
   both (Err why) one two = refusals _ one two
   both (Ok nothing) one two = equally _ _ refl one.1 two.1 (one.0 ∙ sym two.0)
-  both (Ok (ask action)) one two =
+  both (Ok (request action)) one two =
       both_on _ _ _ _ _ _ (refusals _) (λ h h' c c'.
       let e = place_once s.parts.environment.actions action h.0 h'.0 clear.actions h.1 h'.1 in
       both_on _ _ _ _ _ _ (refusals _) (λ idle idle' c c'.
       both_on _ _ _ _ _ _ (refusals _) (λ great great' c c'.
-      both_need _ _ _ _ _ _ _ (subst (MayAsk s) e) (subst (MayAsk s) (sym e)) (refusals _) (λ may may' c c'.
+      both_need _ _ _ _ _ _ _ (subst (MayRequest s) e) (subst (MayRequest s) (sym e)) (refusals _) (λ may may' c c'.
       equally _ _ (ap (λ (a : ℕ). record s { phase = Offered a }) e) c.1 c'.1 (offers_fixed s h.0 text other c.0 (subst (λ a. OffersServing s a other) (sym e) c'.0))) c c') c c') c c') one two
-  both (Ok (hand service)) one two =
+  both (Ok (delegate service)) one two =
       both_on _ _ _ _ _ _ (refusals _) (λ h h' c c'.
       let e = seat_place service h h' in
-      both_on _ _ _ _ _ _ (refusals _) (λ asked asked' c c'.
-      let f : asked.0 ≡ asked'.0 = ap action_of (sym asked.1 ∙ asked'.1) in
-      both_need _ _ _ _ _ _ _ (λ serves. subst (λ k. ServesHere s asked'.0 k) e (subst (λ a. ServesHere s a h.0) f serves))
-      (λ serves. subst (λ k. ServesHere s asked.0 k) (sym e) (subst (λ a. ServesHere s a h'.0) (sym f) serves)) (refusals _) (λ serves serves' c c'.
-      equally _ _ (ap (λ (a : ℕ). record s { phase = Delegated a h.0 }) f ∙ ap (λ (k : ℕ). record s { phase = Delegated asked'.0 k }) e) c.1 c'.1 (c.0 ∙ sym c'.0)) c c') c c') one two
-  both (Ok (saw state env)) one two =
+      both_on _ _ _ _ _ _ (refusals _) (λ requested requested' c c'.
+      let f : requested.0 ≡ requested'.0 = ap action_of (sym requested.1 ∙ requested'.1) in
+      both_need _ _ _ _ _ _ _ (λ serves. subst (λ k. ServesHere s requested'.0 k) e (subst (λ a. ServesHere s a h.0) f serves))
+      (λ serves. subst (λ k. ServesHere s requested.0 k) (sym e) (subst (λ a. ServesHere s a h'.0) (sym f) serves)) (refusals _) (λ serves serves' c c'.
+      equally _ _ (ap (λ (a : ℕ). record s { phase = Delegated a h.0 }) f ∙ ap (λ (k : ℕ). record s { phase = Delegated requested'.0 k }) e) c.1 c'.1 (c.0 ∙ sym c'.0)) c c') c c') one two
+  both (Ok (observe state env)) one two =
       both_on _ _ _ _ _ _ (refusals _) (λ h h' c c'.
-      let (a, k, handed) = h in
-      let (a', k', handed') = h' in
-      let ea : a ≡ a' = ap action_of (sym handed ∙ handed') in
-      let ek : k ≡ k' = ap seat_of_phase (sym handed ∙ handed') in
+      let (a, k, delegated) = h in
+      let (a', k', delegated') = h' in
+      let ea : a ≡ a' = ap action_of (sym delegated ∙ delegated') in
+      let ek : k ≡ k' = ap seat_of_phase (sym delegated ∙ delegated') in
       both_need _ _ _ _ _ _ _ (subst (λ n. Place (seat_names (names_in s.parts) n).states state) ek) (subst (λ n. Place (seat_names (names_in s.parts) n).states state) (sym ek)) (refusals _) (λ there there' c c'.
       let eb = state_place state k k' ek there there' in
       both_on _ _ _ _ _ _ (refusals _) (λ named named' c c'.

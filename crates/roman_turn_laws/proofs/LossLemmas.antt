@@ -1,8 +1,7 @@
 -- The loss of services within a session never helps.
-use Rattle.roman_turn_laws.proofs.Common.{Bool, IsFalse, IsTrue, List, Ok, Some, [], ap, false, inl, inr, refl, slice_get, subst, suc, sym, true, zero, ℕ, ◌∷◌, ◌≡◌, AcceptedNamesAreClear, IsGreat, State, Refuses, TurnsInto, Unless, IsReady, frozen_system, gone_system, system_of, LosingNeverHelps, Freeze, Thaw, after, set_frozen, without, Great, IsPair, IsSys, Sys, die, freeze, thaw, MayGo, TurnsNeverGain}
+use Rattle.roman_turn_laws.proofs.Common.{Bool, IsFalse, IsTrue, List, Ok, Some, [], ap, false, inl, inr, refl, slice_get, subst, suc, sym, true, zero, ℕ, ◌∷◌, ◌≡◌, AcceptedNamesAreClear, IsGreat, State, Refuses, TurnsInto, Unless, IsReady, frozen_system, gone_system, system_of, LosingNeverHelps, Freeze, Thaw, after, set_frozen, without, Great, IsPair, IsSys, Sys, die, freeze, thaw, MayGo, TurnsNeverGain, needs_elim}
 use Rattle.roman_model.specs.System as model
 use Rattle.roman_text.specs.declared.replies.Reply.TheVariants as reply
-use Rattle.roman_turn_laws.proofs.CalmLemmas.{needs_out}
 use Rattle.roman_turn_laws.proofs.SoundLemmas.{reached_sound}
 
 -- a seat that is made ready, and then frozen as it was
@@ -18,23 +17,23 @@ is_true false never = absurd (never refl)
 module _ (never : LosingNeverHelps) (s new : State) (sys : IsSys (system_of s.parts)) (pair : IsPair (system_of s.parts) s.here) (service text : List ℕ) where
   frozen_lost : TurnsInto s (Ok (freeze service)) text new → IsGreat new → IsGreat s
   frozen_lost turn great =
-      needs_out _ _ _ _ (λ r. subst IsGreat r.1 great) (λ (k, there) c.
-      needs_out _ _ _ _ (λ r. subst IsGreat r.1 great) (λ idle c.
-      needs_out _ _ _ _ (λ r. subst IsGreat r.1 great) (λ ready c.
+      needs_elim (λ r. subst IsGreat r.1 great) (λ (k, there) c.
+      needs_elim (λ r. subst IsGreat r.1 great) (λ idle c.
+      needs_elim (λ r. subst IsGreat r.1 great) (λ ready c.
       (never (system_of s.parts) s.here).one_frozen k (subst (λ (t : Sys). Great t s.here) (frozen_system s.parts k true) (subst IsGreat c.1 great))) c) c) turn
 
   died_lost : TurnsInto s (Ok (die service)) text new → MayGo s service → IsGreat new → IsGreat s
   died_lost turn may great =
-      needs_out _ _ _ _ (λ r. subst IsGreat r.1 great) (λ (k, there) c.
-      needs_out _ _ _ _ (λ r. subst IsGreat r.1 great) (λ idle c.
+      needs_elim (λ r. subst IsGreat r.1 great) (λ (k, there) c.
+      needs_elim (λ r. subst IsGreat r.1 great) (λ idle c.
       let (seat, seated, goes) = may k there in
       (never (system_of s.parts) s.here).one_gone sys pair k seat seated goes
       (subst (λ (t : Sys). Great t (without k s.here)) (gone_system s.parts k seat) (subst IsGreat c.1 great))) c) turn
 
   thawed_gains : TurnsInto s (Ok (thaw service)) text new → IsGreat s → IsGreat new
   thawed_gains turn great =
-      needs_out _ _ _ _ (λ r. subst IsGreat (sym r.1) great) (λ (k, there) c.
-      needs_out _ _ _ _ (λ r. subst IsGreat (sym r.1) great) (λ idle c.
+      needs_elim (λ r. subst IsGreat (sym r.1) great) (λ (k, there) c.
+      needs_elim (λ r. subst IsGreat (sym r.1) great) (λ idle c.
       frozen_out k _ c (λ frozen c.
       let old = system_of s.parts in
       let back : after (Freeze k) (after (Thaw k) old) ≡ old = ap (λ (seats : List model.Seat). let S : Sys = record { env = old.env; target = old.target; seats = seats } in S) (thawed_back old.seats k frozen) in

@@ -1,5 +1,5 @@
 -- Sessions go on in a document that begins in the present states.
-use Rattle.roman_turn_laws.proofs.Common.{◌≡◌, ℕ, List, [], ◌∷◌, map, refl, sym, ap, ◌∙◌, subst, inl, inr, Result, Ok, Err, LineShape, nothing, ask, hand, saw, abort, freeze, thaw, die, join, jump, jump_env, report, explain, quit, LineError, Reply, AllZip, NamedSys, system_of, Seat, PlainLibrary, parts_of, state_of_service, Phase, Idle, services_again, OffersServing, Turn, AreTurns, State, start_state, IsState, afresh, services_in, ComesTo, TurnsInto, Refuses, Needs, Unless, state_at, starting_at, IsSameTurn, TurnsAreAlike, SessionsResume, TakesUp, OpenIsTakenUp}
+use Rattle.roman_turn_laws.proofs.Common.{◌≡◌, ℕ, List, [], ◌∷◌, map, refl, sym, ap, ◌∙◌, subst, inl, inr, Result, Ok, Err, LineShape, nothing, request, delegate, observe, abort, freeze, thaw, die, join, jump, jump_env, report, explain, quit, LineError, Reply, AllZip, NamedSys, system_of, Seat, PlainLibrary, parts_of, state_of_service, Phase, Idle, services_again, OffersServing, Turn, AreTurns, State, start_state, IsState, afresh, services_in, ComesTo, TurnsInto, Refuses, Needs, Unless, state_at, starting_at, IsSameTurn, TurnsAreAlike, SessionsResume, TakesUp, OpenIsTakenUp}
 use Rattle.roman_turn_laws.proofs.StartLemmas.{pair_at, step_at, step_back, great_at, great_back, here_at, here_back, offers_at, lost_count_at, reports_at, refutes_at}
 
 needs_at : (H H' R R' : Type 0) (T : H → Type 0) (T' : H' → Type 0) (to : H → H') → (H' → H) → (R → R') → ((h : H) → T h → T' (to h)) → Needs H R T → Needs H' R' T'
@@ -22,17 +22,17 @@ module _ (e0 t0 : ℕ) (s : State) (R R' : Reply → Type 0) (L L' : State → (
   comes_at : (event : Result LineShape LineError) → ComesTo s event R L → ComesTo (state_at e0 t0 s) event R' L'
   comes_at (Err why) c = refused _ c
   comes_at (Ok nothing) c = leads _ _ _ (λ text says. says) c
-  comes_at (Ok (ask action)) c =
+  comes_at (Ok (request action)) c =
       needs_on _ _ _ _ _ (refused _) (λ (a, there) c.
       needs_on _ _ _ _ _ (refused _) (λ idle c.
       needs_at _ _ _ _ _ _ (great_at e0 t0 (system_of s.parts) _) (great_back e0 t0 (system_of s.parts) _) (refused _) (λ great c.
       needs_on _ _ _ _ _ (refused _) (λ may c. leads _ _ _ (λ text says. offers_at e0 t0 s a text says) c) c) c) c) c
-  comes_at (Ok (hand service)) c =
+  comes_at (Ok (delegate service)) c =
       needs_on _ _ _ _ _ (refused _) (λ (k, there) c.
-      needs_on _ _ _ _ _ (refused _) (λ (a, asked) c.
+      needs_on _ _ _ _ _ (refused _) (λ (a, requested) c.
       needs_at _ _ _ _ _ _ (here_at e0 t0 s a k) (here_back e0 t0 s a k) (refused _) (λ serves c. leads _ _ _ (λ text says. says) c) c) c) c
-  comes_at (Ok (saw state env)) c =
-      needs_on _ _ _ _ _ (refused _) (λ (a, k, handed) c.
+  comes_at (Ok (observe state env)) c =
+      needs_on _ _ _ _ _ (refused _) (λ (a, k, delegated) c.
       needs_on _ _ _ _ _ (refused _) (λ (b, there) c.
       needs_on _ _ _ _ _ (refused _) (λ (e, named) c.
       needs_at _ _ _ _ _ _ (step_at e0 t0 (system_of s.parts) _ _ _ _ _ _) (step_back e0 t0 (system_of s.parts) _ _ _ _ _ _) (refused _) (λ possible (t, goes, c). (t, goes, leads _ _ _ (λ text says. says) c)) c) c) c) c
@@ -92,8 +92,8 @@ state_begun e0 t0 one other s begun is = record {
   parts = ap (starting_at e0 t0) is.parts ∙ sym (begun s.parts.seats);
   names = is.names;
   here = pair_at e0 t0 (system_of s.parts) s.here is.here;
-  asked = λ a e. let (great, may) = is.asked a e in (great_at e0 t0 (system_of s.parts) _ great, may);
-  handed = λ a k e. let (great, may, serves) = is.handed a k e in (great_at e0 t0 (system_of s.parts) _ great, may, here_at e0 t0 s a k serves);
+  requested = λ a e. let (great, may) = is.requested a e in (great_at e0 t0 (system_of s.parts) _ great, may);
+  delegated = λ a k e. let (great, may, serves) = is.delegated a k e in (great_at e0 t0 (system_of s.parts) _ great, may, here_at e0 t0 s a k serves);
 }
 
 -- the turn between states with other starts
@@ -167,11 +167,11 @@ sessions_resume library s lines is idle =
 
 open_taken : (library : PlainLibrary) (s : State) → IsState library s → TakesUp s
 open_taken library s is = record {
-  asked = λ a action text e there says.
-      let (great, may) = is.asked a e in
+  requested = λ a action text e there says.
+      let (great, may) = is.requested a e in
       inl ((a, there), inl (refl, inl (great, inl (may, (offers_again s a text Idle says, ap (λ (phase : Phase). record s { phase = phase }) e)))));
-  handed = λ a k action service text e there named says.
-      let (great, may, serves) = is.handed a k e in (
+  delegated = λ a k action service text e there named says.
+      let (great, may, serves) = is.delegated a k e in (
         inl ((a, there), inl (refl, inl (great, inl (may, (offers_again s a text Idle says, refl))))),
         inl ((k, named), inl ((a, refl), inl (serves, (refl, ap (λ (phase : Phase). record s { phase = phase }) e)))),
       );
@@ -190,8 +190,8 @@ idle_is_state library s is = record {
   parts = is.parts;
   names = is.names;
   here = is.here;
-  asked = λ a e. absurd (let f : ⊥ = cc in f);
-  handed = λ a k e. absurd (let f : ⊥ = cc in f);
+  requested = λ a e. absurd (let f : ⊥ = cc in f);
+  delegated = λ a k e. absurd (let f : ⊥ = cc in f);
 }
 
 pub open_taken_up : OpenIsTakenUp

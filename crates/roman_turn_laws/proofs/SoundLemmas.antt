@@ -1,6 +1,5 @@
 -- The states that sessions reach have the parts of a system within the limit, and services with valid names.
-use Rattle.roman_turn_laws.proofs.Common.{Bool, Err, IsTrue, List, Ok, Result, Some, [], ap, arith, false, inl, inr, length, map, not, refl, remove, slice_get, subst, suc, sym, true, zero, ℕ, ◌++◌, ◌<◌, ◌∙◌, ◌∷◌, ◌≡◌, ◌≤◌, le-ltb, length-map, map_push, get_or_from_slice_get, slice_get_within, AcceptedNamesAreClear, IsState, State, start_state, TurnsInto, Unless, with_services, Texts, beh_read, frozen_known, gone_known, joined_known, joined_system, with_frozen, IsNamedSys, NamedSys, beh_at, cells, system_of, beh_name, seat_name, Seat, behaviour_there, libraries_known, IsCatalogue, IsLibrary, PlainLibrary, Service, from_get_map, from_map, from_push, in_map, remove_in, IsIn, IsBeh, MAX_SERVICES, NamedBeh, is_name, parts_of, seat_of_service, LineShape, abort, ask, die, explain, freeze, hand, join, jump, jump_env, nothing, quit, report, saw, thaw, LineError, library_parts, AreTurns, Turn, after_turns, IsReached}
-use Rattle.roman_turn_laws.proofs.CalmLemmas.{needs_out, unless_out}
+use Rattle.roman_turn_laws.proofs.Common.{Bool, Err, IsTrue, List, Ok, Result, Some, [], ap, arith, false, inl, inr, length, map, not, refl, remove, slice_get, subst, suc, sym, true, zero, ℕ, ◌++◌, ◌<◌, ◌∙◌, ◌∷◌, ◌≡◌, ◌≤◌, le-ltb, length-map, map_push, get_or_from_slice_get, slice_get_within, AcceptedNamesAreClear, IsState, State, start_state, TurnsInto, with_services, Texts, beh_read, frozen_known, gone_known, joined_known, joined_system, with_frozen, IsNamedSys, NamedSys, beh_at, cells, system_of, beh_name, seat_name, Seat, behaviour_there, libraries_known, IsCatalogue, IsLibrary, PlainLibrary, Service, from_get_map, from_map, from_push, in_map, remove_in, IsIn, IsBeh, MAX_SERVICES, NamedBeh, is_name, parts_of, seat_of_service, LineShape, abort, request, die, explain, freeze, delegate, join, jump, jump_env, nothing, quit, report, observe, thaw, LineError, library_parts, AreTurns, Turn, after_turns, IsReached, needs_elim, unless_elim}
 
 -- the parts are those of a system within the limit, and the services have valid names
 pub record IsSound (s : State) : Type 0 where
@@ -26,11 +25,6 @@ place_within seats service k there = omega (arith, slice_get_within (map seat_na
 -- the behaviour at a place that a name has
 behaviour_at : (catalogue : List NamedBeh) (i : ℕ) (name : List ℕ) → slice_get (map beh_name catalogue) i ≡ Some name → (b : NamedBeh) × (slice_get catalogue i ≡ Some b)
 behaviour_at catalogue i name there = let (b, at, e) = from_get_map beh_name catalogue i name there in (b, at)
-
--- the condition doesn't hold, and the rest follows
-unless_from : (H R T X : Type 0) → (R → X) → ((H → ⊥) → T → X) → Unless H R T → X
-unless_from H R T X refused go (inl (h, r)) = refused r
-unless_from H R T X refused go (inr (none, t)) = go none t
 
 -- Each turn keeps a state sound.
 
@@ -91,49 +85,49 @@ module _ (library : PlainLibrary) (catalogue : IsCatalogue library.environment l
   pub turn_sound : (event : Result LineShape LineError) → TurnsInto s event text new → IsSound new
   turn_sound (Err why) turn = stays turn.1
   turn_sound (Ok nothing) turn = stays turn.1
-  turn_sound (Ok (ask action)) turn =
-      needs_out _ _ _ _ (λ r. stays r.1) (λ (a, there) c.
-      needs_out _ _ _ _ (λ r. stays r.1) (λ idle c.
-      needs_out _ _ _ _ (λ r. stays r.1) (λ related c.
-      needs_out _ _ _ _ (λ r. stays r.1) (λ may c. moves _ refl c.1) c) c) c) turn
-  turn_sound (Ok (hand service)) turn =
-      needs_out _ _ _ _ (λ r. stays r.1) (λ (k, there) c.
-      needs_out _ _ _ _ (λ r. stays r.1) (λ (a, asked) c.
-      needs_out _ _ _ _ (λ r. stays r.1) (λ serves c. moves _ refl c.1) c) c) turn
-  turn_sound (Ok (saw state env)) turn =
-      needs_out _ _ _ _ (λ r. stays r.1) (λ (a, k, handed) c.
-      needs_out _ _ _ _ (λ r. stays r.1) (λ (b, there) c.
-      needs_out _ _ _ _ (λ r. stays r.1) (λ (e, named) c.
-      needs_out _ _ _ _ (λ r. stays r.1) (λ possible (t, goes, c). moves _ refl c.1) c) c) c) turn
-  turn_sound (Ok abort) turn = unless_out _ _ _ _ (λ r. stays r.1) (λ c. moves _ refl c.1) turn
+  turn_sound (Ok (request action)) turn =
+      needs_elim (λ r. stays r.1) (λ (a, there) c.
+      needs_elim (λ r. stays r.1) (λ idle c.
+      needs_elim (λ r. stays r.1) (λ related c.
+      needs_elim (λ r. stays r.1) (λ may c. moves _ refl c.1) c) c) c) turn
+  turn_sound (Ok (delegate service)) turn =
+      needs_elim (λ r. stays r.1) (λ (k, there) c.
+      needs_elim (λ r. stays r.1) (λ (a, requested) c.
+      needs_elim (λ r. stays r.1) (λ serves c. moves _ refl c.1) c) c) turn
+  turn_sound (Ok (observe state env)) turn =
+      needs_elim (λ r. stays r.1) (λ (a, k, delegated) c.
+      needs_elim (λ r. stays r.1) (λ (b, there) c.
+      needs_elim (λ r. stays r.1) (λ (e, named) c.
+      needs_elim (λ r. stays r.1) (λ possible (t, goes, c). moves _ refl c.1) c) c) c) turn
+  turn_sound (Ok abort) turn = unless_elim (λ r. stays r.1) (λ none c. moves _ refl c.1) turn
   turn_sound (Ok (freeze service)) turn =
-      needs_out _ _ _ _ (λ r. stays r.1) (λ (k, there) c.
-      needs_out _ _ _ _ (λ r. stays r.1) (λ idle c.
-      needs_out _ _ _ _ (λ r. stays r.1) (λ ready c. becomes _ (frozen_sound k true service there) c.1) c) c) turn
+      needs_elim (λ r. stays r.1) (λ (k, there) c.
+      needs_elim (λ r. stays r.1) (λ idle c.
+      needs_elim (λ r. stays r.1) (λ ready c. becomes _ (frozen_sound k true service there) c.1) c) c) turn
   turn_sound (Ok (thaw service)) turn =
-      needs_out _ _ _ _ (λ r. stays r.1) (λ (k, there) c.
-      needs_out _ _ _ _ (λ r. stays r.1) (λ idle c.
-      unless_out _ _ _ _ (λ r. stays r.1) (λ c. becomes _ (frozen_sound k false service there) c.1) c) c) turn
+      needs_elim (λ r. stays r.1) (λ (k, there) c.
+      needs_elim (λ r. stays r.1) (λ idle c.
+      unless_elim (λ r. stays r.1) (λ none c. becomes _ (frozen_sound k false service there) c.1) c) c) turn
   turn_sound (Ok (die service)) turn =
-      needs_out _ _ _ _ (λ r. stays r.1) (λ (k, there) c.
-      needs_out _ _ _ _ (λ r. stays r.1) (λ idle c. becomes _ (gone_sound k service there) c.1) c) turn
+      needs_elim (λ r. stays r.1) (λ (k, there) c.
+      needs_elim (λ r. stays r.1) (λ idle c. becomes _ (gone_sound k service there) c.1) c) turn
   turn_sound (Ok (join service behaviour state loose)) turn =
-      needs_out _ _ _ _ (λ r. stays r.1) (λ good c.
-      needs_out _ _ _ _ (λ r. stays r.1) (λ (i, there) c.
-      needs_out _ _ _ _ (λ r. stays r.1) (λ (b, named) c.
-      needs_out _ _ _ _ (λ r. stays r.1) (λ idle c.
-      unless_from _ _ _ _ (λ r. stays r.1) (λ free c.
-      needs_out _ _ _ _ (λ r. stays r.1) (λ few c.
-      needs_out _ _ _ _ (λ r. stays r.1) (λ fits c. becomes _ (joined_sound service behaviour (not loose) i b good there free few fits) c.1) c) c) c) c) c) c) turn
+      needs_elim (λ r. stays r.1) (λ good c.
+      needs_elim (λ r. stays r.1) (λ (i, there) c.
+      needs_elim (λ r. stays r.1) (λ (b, named) c.
+      needs_elim (λ r. stays r.1) (λ idle c.
+      unless_elim (λ r. stays r.1) (λ free c.
+      needs_elim (λ r. stays r.1) (λ few c.
+      needs_elim (λ r. stays r.1) (λ fits c. becomes _ (joined_sound service behaviour (not loose) i b good there free few fits) c.1) c) c) c) c) c) c) turn
   turn_sound (Ok (jump service state)) turn =
-      needs_out _ _ _ _ (λ r. stays r.1) (λ (k, there) c.
-      needs_out _ _ _ _ (λ r. stays r.1) (λ (b, named) c.
-      needs_out _ _ _ _ (λ r. stays r.1) (λ idle c. moves _ refl c.1) c) c) turn
+      needs_elim (λ r. stays r.1) (λ (k, there) c.
+      needs_elim (λ r. stays r.1) (λ (b, named) c.
+      needs_elim (λ r. stays r.1) (λ idle c. moves _ refl c.1) c) c) turn
   turn_sound (Ok (jump_env env)) turn =
-      needs_out _ _ _ _ (λ r. stays r.1) (λ (e, named) c.
-      needs_out _ _ _ _ (λ r. stays r.1) (λ idle c. moves _ refl c.1) c) turn
+      needs_elim (λ r. stays r.1) (λ (e, named) c.
+      needs_elim (λ r. stays r.1) (λ idle c. moves _ refl c.1) c) turn
   turn_sound (Ok report) turn = stays turn.1
-  turn_sound (Ok explain) turn = unless_out _ _ _ _ (λ r. stays r.1) (λ c. stays c.1) turn
+  turn_sound (Ok explain) turn = unless_elim (λ r. stays r.1) (λ none c. stays c.1) turn
   turn_sound (Ok quit) turn = stays turn.1
 
 -- Sessions

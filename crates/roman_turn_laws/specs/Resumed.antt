@@ -1,7 +1,7 @@
 -- A session that is cut off between two requests and continues in a library that begins in its present states.
 use Rattle.std.specs.Prelude.{◌≡◌, ℕ, List, map, Result, Ok, Some, slice_get}
 use Rattle.std.specs.List.{AllZip}
-use Rattle.roman_text.specs.Shapes.{LineShape, ask, hand}
+use Rattle.roman_text.specs.Shapes.{LineShape, request, delegate}
 use Rattle.roman_text.specs.Replies.{reply_text}
 use Rattle.roman_text.specs.declared.replies.Reply.TheVariants as reply
 use Rattle.roman_joint.specs.Names.{seat_name}
@@ -38,14 +38,14 @@ pub record GoesOnAfresh (library : PlainLibrary) (s : State) (lines : List (List
 abbrev pub SessionsResume : Type 0
 SessionsResume = (library : PlainLibrary) (s : State) (lines : List (List ℕ)) → IsState library s → s.phase ≡ Idle → GoesOnAfresh library s lines
 
--- the open request of a state is taken up again from the same state without it: by asking it, and by handing it to its delegate
+-- the open request of a state is taken up again from the same state without it: by requesting it, and by delegating it to its delegate
 pub record TakesUp (s : State) : Type 0 where
-  pub asked : (a : ℕ) (action text : List ℕ) → s.phase ≡ Offered a → slice_get s.parts.environment.actions a ≡ Some action → OffersServing s a text →
-      TurnsInto (record s { phase = Idle }) (Ok (ask action)) text s
-  pub handed : (a k : ℕ) (action service text : List ℕ) → s.phase ≡ Delegated a k → slice_get s.parts.environment.actions a ≡ Some action → slice_get (map seat_name s.parts.seats) k ≡ Some service →
+  pub requested : (a : ℕ) (action text : List ℕ) → s.phase ≡ Offered a → slice_get s.parts.environment.actions a ≡ Some action → OffersServing s a text →
+      TurnsInto (record s { phase = Idle }) (Ok (request action)) text s
+  pub delegated : (a k : ℕ) (action service text : List ℕ) → s.phase ≡ Delegated a k → slice_get s.parts.environment.actions a ≡ Some action → slice_get (map seat_name s.parts.seats) k ≡ Some service →
       OffersServing s a text →
-      TurnsInto (record s { phase = Idle }) (Ok (ask action)) text (record s { phase = Offered a })
-      × TurnsInto (record s { phase = Offered a }) (Ok (hand service)) (reply_text (reply.Using service)) s
+      TurnsInto (record s { phase = Idle }) (Ok (request action)) text (record s { phase = Offered a })
+      × TurnsInto (record s { phase = Offered a }) (Ok (delegate service)) (reply_text (reply.Using service)) s
 
 -- an open request can be taken up again in the library that begins in the present states: its state differs from the present one, without the request, in starts alone
 abbrev pub OpenIsTakenUp : Type 0

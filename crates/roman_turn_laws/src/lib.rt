@@ -22,7 +22,7 @@ use roman_text::spell_events;
 /// No turn depends on where the parts of its state start. A session that is cut off between two
 /// requests can be resumed: from the library that has the services now present and begins in the
 /// present states, the same lines have turns with the same texts, and conversely. A request that was
-/// open is taken up there by asking it again, and its delegate by handing it over again.
+/// open is taken up there by requesting it again, and its delegate by delegating it again.
 #[tactic(auto, using(crate::proofs::ResumedLemmas::turns_alike, crate::proofs::ResumedLemmas::sessions_resume, crate::proofs::ResumedLemmas::open_taken_up))]
 pub fn sessions_can_be_resumed()
     ensures turns { TurnsAreAlike }

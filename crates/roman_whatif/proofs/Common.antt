@@ -6,14 +6,15 @@ pub use Rattle.std.proofs.Math.Seq.{take-append_seam}
 pub use Rattle.std.proofs.lemmas.Bool.{cases_lt, eq-eqb, eqb-true, true≢false}
 pub use Rattle.std.proofs.lemmas.Bool.Decides.{nat_tests}
 pub use Rattle.std.proofs.lemmas.List.{get_or-set_other, get_or-set_same, length-map, length-set}
-pub use Rattle.std.proofs.lemmas.List.Sums.{length-filter, sum_by-cons}
+pub use Rattle.std.proofs.lemmas.List.Sums.{length-filter}
 pub use Rattle.std.proofs.lemmas.Option.{same_Some, slice_get-get_or, unwrap_or-slice_get}
 pub use Rattle.std.proofs.lemmas.Slice.Zip.{AllZip-long}
 pub use Rattle.std.specs.List.{AllZip, list_any}
+pub use Rattle.roman_joint.proofs.CallerLemmas.{seat_read}
 pub use Rattle.roman_joint.specs.Changes.{with_frozen}
 pub use Rattle.roman_joint.specs.NamedSys.{IsNamedSys, NamedSys, beh_at, seat_of, still, system_of}
 pub use Rattle.roman_joint.specs.Parts.{HasSameParts}
-pub use Rattle.roman_model.proofs.CallerLemmas.{HasNoRepeats-below, HasNoRepeats-map, all_below_at, all_below_from, any_same, freeze_one, freeze_two, from_below, from_map, from_outcome, from_pairs, get_map, great_related, in_below, in_pairs, leave_one, leave_two, length-remove, length-set_frozen, length-states_at, list_any-map, map-flat_map, map-map, number_without-is, numbers_are_pairs, pair_at-without, pairs_once, related_great, same_test, sizes-left, sizes-turned, sum_by_same, sum_by_within, without_changes}
+pub use Rattle.roman_model.proofs.CallerLemmas.{HasNoRepeats-below, HasNoRepeats-map, all_below_at, all_below_from, any_same, freeze_one, freeze_two, from_below, from_map, from_outcome, from_pairs, great_related, in_below, in_pairs, is_empty-map, leave_one, leave_two, length-remove, length-set_frozen, length-states_at, list_any-map, map-flat_map, map-map, number_without-is, numbers_are_pairs, pair_at-without, pairs_once, related_great, same_test, sizes-left, sizes-turned, sum_by-map, sum_by_same, sum_by_within, without_changes}
 pub use Rattle.roman_model.specs.Arena.{is_beaten, loses, mask}
 pub use Rattle.roman_model.specs.Change.{after, set_frozen, without}
 pub use Rattle.roman_model.specs.Composition.{Great}

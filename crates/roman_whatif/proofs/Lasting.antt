@@ -1,5 +1,5 @@
 -- What remains after a change, and after two.
-use Rattle.roman_whatif.proofs.Common.{◌≡◌, ℕ, ◌<◌, Bool, true, false, not, List, [], ◌∷◌, length, Some, IsTrue, slice_get, refl, sym, ap, ap₂, ◌∙◌, subst, arith, ◌/◌, ◌↔◌, length-map, Seat, Sizes, sizes_of, count, pair_at, sizes_without, number, is_related, related_count, choice_count, Outlook, outlook, system_without, pair_without, Way, same_test, leave_one, freeze_one, number_without-is, pair_at-without, numbers_are_pairs, related_great, great_related, sizes-turned, sizes-left, length-remove, length-set_frozen, get_map, without_changes, NamedSys, seat_of, system_of, IsNamedSys, IsLeft, left_of, is_ready, Great, after, without, HasSameParts, Board, IsRelation}
+use Rattle.roman_whatif.proofs.Common.{◌≡◌, ℕ, ◌<◌, Bool, true, false, not, List, [], ◌∷◌, length, Some, IsTrue, slice_get, refl, sym, ap, ap₂, ◌∙◌, subst, arith, ◌/◌, ◌↔◌, length-map, Seat, Sizes, sizes_of, count, pair_at, sizes_without, number, is_related, related_count, choice_count, Outlook, outlook, system_without, pair_without, Way, same_test, leave_one, freeze_one, number_without-is, pair_at-without, numbers_are_pairs, related_great, great_related, sizes-turned, sizes-left, length-remove, length-set_frozen, without_changes, NamedSys, system_of, IsNamedSys, IsLeft, left_of, is_ready, Great, after, without, HasSameParts, Board, IsRelation, seat_read}
 use Rattle.roman_model.specs.Change.{Freeze, Die}
 use Rattle.roman_model.specs.declared.way.Way.TheVariants as way
 use Rattle.roman_joint.specs.declared.seat.Seat as joint
@@ -30,12 +30,8 @@ parts_on m n o one two = grind arith
 
 -- One seat.
 
--- the seat at a place of the system is the service there
-pub seat_at_place : (n : NamedSys) (k : ℕ) (seat : joint.Seat) → slice_get n.seats k ≡ Some seat → slice_get (system_of n).seats k ≡ Some (seat_of n.catalogue seat)
-seat_at_place n k seat there = get_map (seat_of n.catalogue) n.seats k seat there
-
 pub is_ready_there : (n : NamedSys) (k : ℕ) (seat : joint.Seat) → slice_get n.seats k ≡ Some seat → seat.frozen ≡ false → IsTrue (is_ready (slice_get (system_of n).seats k))
-is_ready_there n k seat there ready = ap is_ready (seat_at_place n k seat there) ∙ ap not ready
+is_ready_there n k seat there ready = ap is_ready (seat_read n k seat there) ∙ ap not ready
 
 -- a frozen seat stays frozen
 pub left_frozen : (n : NamedSys) (order : Board) (p k : ℕ) (seat : Seat) → IsRelation n order → p < count (sizes_of (system_of n)) →

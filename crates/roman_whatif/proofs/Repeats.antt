@@ -1,9 +1,8 @@
 -- The outlooks of failures of services that are alike.
-use Rattle.roman_whatif.proofs.Common.{◌≡◌, ℕ, zero, suc, ◌+◌, ◌-◌, ◌*◌, ◌<◌, true, false, List, [], ◌∷◌, map, length, Some, slice_get, slice_index, refl, sym, ap, ap₂, ◌∙◌, subst, inl, inr, arith, ◌%◌, length-map, cases_lt, has, Sizes, sizes_of, pair_at, Way, NamedSys, seat_of, system_of, beh_at, left_of, told_at, IsToldOf, nat_tests, slice_get-get_or, product_of, length-states_at, AreAlike}
+use Rattle.roman_whatif.proofs.Common.{◌≡◌, ℕ, zero, suc, ◌+◌, ◌-◌, ◌*◌, ◌<◌, true, false, List, [], ◌∷◌, map, length, Some, slice_get, slice_index, refl, sym, ap, ap₂, ◌∙◌, subst, inl, inr, arith, ◌%◌, length-map, cases_lt, has, Sizes, sizes_of, pair_at, Way, NamedSys, seat_of, system_of, beh_at, left_of, told_at, IsToldOf, nat_tests, slice_get-get_or, product_of, length-states_at, AreAlike, seat_read}
 use Rattle.roman_joint.specs.declared.seat.Seat as joint
 use Rattle.roman_whatif.specs.declared.outlook.Outlook as declared
 use Rattle.roman_whatif.proofs.Swaps.{other, moved_on}
-use Rattle.roman_whatif.proofs.Lasting.{seat_at_place}
 
 other_here : (k : ℕ) → other k k ≡ suc k
 other_here zero = refl
@@ -39,7 +38,7 @@ pub repeated_when : (n : NamedSys) (p i k x y : ℕ) (before own : joint.Seat) (
 repeated_when n p i k x y before own shape next within there here behaviours frozens rest sizes is_before is_own same =
     let seats : seat_of n.catalogue own ≡ seat_of n.catalogue before = λ j. record { beh = beh_at n.catalogue (behaviours j); frozen = frozens j; rests = rest j } in record {
       within = subst (λ m. m < length n.seats) next within;
-      seats = seat_at_place n i before there ∙ ap Some (sym seats) ∙ sym (seat_at_place n k own here) ∙ ap (slice_get (system_of n).seats) next;
+      seats = seat_read n i before there ∙ ap Some (sym seats) ∙ sym (seat_read n k own here) ∙ ap (slice_get (system_of n).seats) next;
       states = sym (is_before ∙ ap (λ m. slice_index (pair_at m p).bs i) sizes) ∙ sym same ∙ is_own ∙ ap₂ (λ m j. slice_index (pair_at m p).bs j) sizes next;
     }
 

@@ -1,5 +1,5 @@
 -- Two neighbouring seats in each other's place: the outlook of a pair stays the same.
-use Rattle.roman_whatif.proofs.Common.{◌≡◌, ℕ, zero, suc, ◌+◌, ◌<◌, Bool, true, false, not, List, [], ◌∷◌, map, length, IsTrue, slice_get, slice_index, refl, sym, ap, ap₂, ◌∙◌, subst, arith, ◌≤◌, cond, ◌&&◌, ◌||◌, filter, flat_map, slice_set, sum_by, unwrap_or, eqb-true, eq-eqb, length-set, Seat, Sys, Pair, has, IsPair, all_final, is_final, is_related, related_count, choice_count, leave_out, freeze_at, outlook, system_without, pair_without, Way, same_test, any_same, list_any-map, all_below_at, all_below_from, from_map, from_below, in_below, HasNoRepeats-below, HasNoRepeats-map, sum_by_same, sum_by_within, map-map, map-flat_map, from_outcome, in_pairs, from_pairs, pairs_once, list_any, AllZip, sum_by-cons, length-filter, AllZip-long, same_Some, unwrap_or-slice_get, IsIn, HasNoRepeats, below, all_below, is_empty, pairs, env_next, beh_next, seat_next, outcomes_by, outcomes, is_allowed, arena, is_beaten, mask, loses}
+use Rattle.roman_whatif.proofs.Common.{◌≡◌, ℕ, zero, suc, ◌+◌, ◌<◌, Bool, true, false, not, List, [], ◌∷◌, map, length, IsTrue, slice_get, slice_index, refl, sym, ap, ap₂, ◌∙◌, subst, arith, ◌≤◌, cond, ◌&&◌, ◌||◌, filter, flat_map, slice_set, sum_by, unwrap_or, eqb-true, eq-eqb, length-set, Seat, Sys, Pair, has, IsPair, all_final, is_final, is_related, related_count, choice_count, leave_out, freeze_at, outlook, system_without, pair_without, Way, same_test, any_same, list_any-map, all_below_at, all_below_from, from_map, from_below, in_below, HasNoRepeats-below, HasNoRepeats-map, sum_by_same, sum_by_within, map-map, map-flat_map, from_outcome, in_pairs, from_pairs, pairs_once, list_any, AllZip, length-filter, AllZip-long, same_Some, unwrap_or-slice_get, IsIn, HasNoRepeats, below, all_below, is_empty, pairs, env_next, beh_next, seat_next, outcomes_by, outcomes, is_allowed, arena, is_beaten, mask, loses, sum_by-map, is_empty-map}
 use Rattle.roman_model.specs.declared.way.Way.TheVariants as way
 
 -- the list with the elements at the places k and k + 1 in each other's place
@@ -83,14 +83,6 @@ states-swapped zero (x ∷ y ∷ seats) (b ∷ c ∷ bs) h = (h.1.0, (h.0, h.1.1
 states-swapped (suc k) (x ∷ seats) (b ∷ bs) h = (h.0, states-swapped k seats bs h.1)
 states-swapped k seats bs h = h
 
-sum_by-map : {X Y : Type 0} (g : Y → ℕ) (f : X → Y) (xs : List X) → sum_by g (map f xs) ≡ sum_by (λ x. g (f x)) xs
-sum_by-map g f [] = refl
-sum_by-map g f (x ∷ xs) = sum_by-cons g (f x) (map f xs) ∙ ap (λ n. g (f x) + n) (sum_by-map g f xs) ∙ sym (sum_by-cons (λ y. g (f y)) x xs)
-
-is_empty-map : {X Y : Type 0} (f : X → Y) (xs : List X) → is_empty (map f xs) ≡ is_empty xs
-is_empty-map f [] = refl
-is_empty-map f (x ∷ xs) = refl
-
 -- f maps the elements of two lists to each other, and is its own converse
 record Turns {X : Type 0} (f : X → X) (xs ys : List X) : Type 0 where
   twice : (x : X) → f (f x) ≡ x
@@ -124,8 +116,8 @@ all_kept (x ∷ xs) = ap (λ ys. x ∷ ys) (all_kept xs)
 
 -- Tests of the places of seats.
 
-places_turn : (k n : ℕ) → suc k < n → Turns (other k) (below n) (below n)
-places_turn k n w = record {
+places_swap : (k n : ℕ) → suc k < n → Turns (other k) (below n) (below n)
+places_swap k n w = record {
   twice = other_twice k;
   once = HasNoRepeats-below n;
   others_once = HasNoRepeats-below n;
@@ -154,8 +146,8 @@ swapped_pair k p = record { t = p.t; e = p.e; bs = swapped k p.bs }
 pair-swapped : (s : Sys) (k : ℕ) (p : Pair) → IsPair s p → IsPair (swapped_system k s) (swapped_pair k p)
 pair-swapped s k p ok = record { t = ok.t; e = ok.e; bs = states-swapped k s.seats p.bs ok.bs }
 
-pairs_turn : (s : Sys) (k : ℕ) → Turns (swapped_pair k) (pairs s) (pairs (swapped_system k s))
-pairs_turn s k = record {
+pairs_swap : (s : Sys) (k : ℕ) → Turns (swapped_pair k) (pairs s) (pairs (swapped_system k s))
+pairs_swap s k = record {
   twice = λ p. ap (λ bs. record { t = p.t; e = p.e; bs = bs }) (swapped_twice k p.bs);
   once = pairs_once s;
   others_once = pairs_once (swapped_system k s);
@@ -214,7 +206,7 @@ module _ (s : Sys) (k : ℕ) (within : suc k < length s.seats) where
   related-swapped : (p : Pair) → IsLong p → is_related s p ≡ is_related (swapped_system k s) (swapped_pair k p)
   related-swapped p l =
       let long : length (pairs s) ≡ length (pairs (swapped_system k s)) =
-      ap length (sym (all_kept (pairs s))) ∙ count_turned (swapped_pair k) (pairs s) (pairs (swapped_system k s)) (λ q. true) (λ q. true) (pairs_turn s k) (λ q i. refl) ∙ ap length (all_kept (pairs (swapped_system k s))) in
+      ap length (sym (all_kept (pairs s))) ∙ count_turned (swapped_pair k) (pairs s) (pairs (swapped_system k s)) (λ q. true) (λ q. true) (pairs_swap s k) (λ q i. refl) ∙ ap length (all_kept (pairs (swapped_system k s))) in
       ap not (loses-swapped (length (pairs s)) p l ∙ ap (λ n. loses (arena (swapped_system k s)) n (swapped_pair k p)) long)
 
   pair_long : (p : Pair) → IsIn p (pairs s) → IsLong p
@@ -225,7 +217,7 @@ module _ (s : Sys) (k : ℕ) (within : suc k < length s.seats) where
       let serves : ℕ → Bool = λ j. not (is_beaten (arena s) (λ q. not (is_related s q)) p a j) in
       let serves_there : ℕ → Bool = λ j. not (is_beaten (arena (swapped_system k s)) (λ q. not (is_related (swapped_system k s) q)) (swapped_pair k p) a j) in
       let same : length (filter serves (below (length s.seats))) ≡ length (filter serves_there (below (length (swapped k s.seats)))) =
-      count_turned (other k) (below (length s.seats)) (below (length s.seats)) serves serves_there (places_turn k (length s.seats) within)
+      count_turned (other k) (below (length s.seats)) (below (length s.seats)) serves serves_there (places_swap k (length s.seats) within)
       (λ j i. ap not (beaten-swapped (λ q. not (is_related s q)) (λ q. not (is_related (swapped_system k s) q)) (λ q m. ap not (related-swapped q m)) p l a j))
       ∙ ap (λ n. length (filter serves_there (below n))) (sym (length-swapped k s.seats)) in
       elim (is_allowed s p a) as (λ x. length (cond x (filter serves (below (length s.seats))) []) ≡ length (cond x (filter serves_there (below (length (swapped k s.seats)))) [])) [ true ↦ same | false ↦ refl ]
@@ -233,12 +225,12 @@ module _ (s : Sys) (k : ℕ) (within : suc k < length s.seats) where
   outlook-swapped : (p : Pair) → IsLong p → outlook s p ≡ outlook (swapped_system k s) (swapped_pair k p)
   outlook-swapped p l =
       let related : related_count s ≡ related_count (swapped_system k s) =
-      count_turned (swapped_pair k) (pairs s) (pairs (swapped_system k s)) (is_related s) (is_related (swapped_system k s)) (pairs_turn s k) (λ q i. related-swapped q (pair_long q i)) in
+      count_turned (swapped_pair k) (pairs s) (pairs (swapped_system k s)) (is_related s) (is_related (swapped_system k s)) (pairs_swap s k) (λ q i. related-swapped q (pair_long q i)) in
       let chosen : choice_count s ≡ choice_count (swapped_system k s) =
       sum_turned (swapped_pair k) (pairs s) (pairs (swapped_system k s))
       (λ q. sum_by (λ a. length (mask (arena s) (λ r. not (is_related s r)) q a)) (below s.env.actions))
       (λ q. sum_by (λ a. length (mask (arena (swapped_system k s)) (λ r. not (is_related (swapped_system k s) r)) q a)) (below s.env.actions))
-      (pairs_turn s k) (λ q i. ap (λ g. sum_by g (below s.env.actions)) (λ i' a. mask-swapped q a (pair_long q i) i')) in
+      (pairs_swap s k) (λ q i. ap (λ g. sum_by g (below s.env.actions)) (λ i' a. mask-swapped q a (pair_long q i) i')) in
       λ i. record { composes = related-swapped p l i; related = related i; choices = chosen i }
 
 -- Equal neighbours, of which one fails.

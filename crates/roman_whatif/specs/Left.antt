@@ -7,6 +7,7 @@ use Rattle.roman_joint.specs.NamedSys.{NamedSys, system_of}
 use Rattle.roman_joint.specs.Parts.{HasSameParts}
 use Rattle.roman_order.specs.Board.{Board}
 use Rattle.roman_relation.specs.Greatest.{HasCaps, IsRelation}
+use Rattle.roman_relation.specs.declared.relation.Relation.{Relation}
 
 -- the places of the seats that fail
 abbrev pub places : ℕ → Option ℕ → List ℕ
@@ -14,14 +15,14 @@ places first None = first ∷ []
 places first (Some second) = first ∷ second ∷ []
 
 -- changes of the base can be tried on this relation: it differs from the base only in its services and its list, and has room for the base
-pub record IsScratchOf (base joint : NamedSys) (order : Board) : Type 0 where
-  pub parts : HasSameParts joint base
-  pub caps : HasCaps joint order
+pub record IsScratchOf (base : NamedSys) (scratch : Relation) : Type 0 where
+  pub parts : HasSameParts scratch.joint base
+  pub caps : HasCaps scratch.joint scratch.order
 
 -- changes of the base can be tried on this relation, and it has no waiting entries
-pub record IsIdleScratchOf (base joint : NamedSys) (order : Board) : Type 0 where
-  pub scratch : IsScratchOf base joint order
-  pub idle : order.waiting ≡ []
+pub record IsIdleScratchOf (base : NamedSys) (scratch : Relation) : Type 0 where
+  pub is_scratch : IsScratchOf base scratch
+  pub idle : scratch.order.waiting ≡ []
 
 -- the relation is that of the system without the seats at the places K of the old system, and q is the pair that remains of p
 pub record IsLeft (way : Way) (K : List ℕ) (old : NamedSys) (p : ℕ) (joint : NamedSys) (order : Board) (q : ℕ) : Type 0 where
@@ -30,3 +31,7 @@ pub record IsLeft (way : Way) (K : List ℕ) (old : NamedSys) (p : ℕ) (joint :
   pub system : system_of joint ≡ system_without way K (system_of old)
   pub within : q < count (sizes_of (system_of joint))
   pub pair : pair_at (sizes_of (system_of joint)) q ≡ pair_without way K (pair_at (sizes_of (system_of old)) p)
+
+-- by this failure the relation becomes the other one
+abbrev pub FailsTo : Way → List ℕ → Relation → ℕ → Relation → ℕ → Type 0
+FailsTo way K old p new q = IsLeft way K old.joint p new.joint new.order q

@@ -1,3 +1,4 @@
 pub mod Left
 pub mod Losses
 pub mod Told
+pub mod Scenarios

@@ -53,5 +53,5 @@ IsRepeated parts p k = (0 < k) × AreAlike parts p (k - 1)
 
 -- failures of the base can be tried on both copies
 pub record AreTrialsOf (base : NamedSys) (trials : Trials) : Type 0 where
-  pub middle : IsIdleScratchOf base trials.middle.joint trials.middle.order
-  pub scratch : IsIdleScratchOf base trials.scratch.joint trials.scratch.order
+  pub middle : IsIdleScratchOf base trials.middle
+  pub scratch : IsIdleScratchOf base trials.scratch

@@ -1,8 +1,7 @@
 //! Services that are equal but for their names, whose failures have the same outlooks.
 ghost use Rattle.std.specs.Prelude.{◌-◌, ◌<◌, length, IsTrue};
-ghost use Rattle.roman_model.specs.Numbers.{sizes_of, count};
-ghost use Rattle.roman_joint.specs.NamedSys.{system_of};
 ghost use Rattle.roman_whatif.specs.Losses.{IsRepeated};
+ghost use Rattle.roman_joint.specs.Pairs.{joint_pairs};
 
 use roman_relation::Relation;
 
@@ -10,7 +9,7 @@ use roman_relation::Relation;
 /// are in the same state at the pair `p`, are both frozen or both ready, and are both loose or neither.
 /// Only their names differ.
 pub(crate) fn is_repeated(base: &Relation, p: u32, k: u8) -> bool
-    requires pair { p < count (sizes_of (system_of base.now.joint)) }
+    requires pair { p < joint_pairs base.now.joint }
     requires place { k < length base.now.joint.seats }
     ensures { IsTrue result → IsRepeated base.now.joint p k }
 {
@@ -36,7 +35,7 @@ pub(crate) fn is_repeated(base: &Relation, p: u32, k: u8) -> bool
 
 /// Returns whether the service at place `j` and the two before it are alike.
 pub(crate) fn is_third(base: &Relation, p: u32, j: u8) -> bool
-    requires pair { p < count (sizes_of (system_of base.now.joint)) }
+    requires pair { p < joint_pairs base.now.joint }
     requires place { j < length base.now.joint.seats }
     ensures some { IsTrue result → 1 < j }
     ensures own { IsTrue result → IsRepeated base.now.joint p j }

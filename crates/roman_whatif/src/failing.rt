@@ -1,12 +1,13 @@
 //! Tries the failures of services.
 ghost use Rattle.std.specs.Prelude.{◌≡◌, ◌<◌, ◌↔◌, [], ◌∷◌, length, IfSome, IsTrue};
 ghost use Rattle.roman_model.specs.Composition.{Great};
-ghost use Rattle.roman_model.specs.Numbers.{sizes_of, count, pair_at};
+ghost use Rattle.roman_model.specs.Numbers.{sizes_of, pair_at};
 ghost use Rattle.roman_model.specs.Without.{system_without, pair_without, outlook};
 ghost use Rattle.roman_joint.specs.NamedSys.{system_of};
-ghost use Rattle.roman_relation.specs.Greatest.{HasCaps, IsRelation};
-ghost use Rattle.roman_whatif.specs.Left.{places, IsScratchOf, IsIdleScratchOf, IsLeft};
+ghost use Rattle.roman_relation.specs.Greatest.{HasCaps, IsUpToDate};
+ghost use Rattle.roman_whatif.specs.Left.{places, IsScratchOf, IsIdleScratchOf, FailsTo};
 ghost use Rattle.roman_whatif.specs.Told.{told};
+ghost use Rattle.roman_joint.specs.Pairs.{joint_pairs};
 
 use crate::outlook::{Outlook, now};
 use roman_io::Steps;
@@ -30,16 +31,16 @@ pub fn without<L: Ledger>(
     way: Way,
     steps: &mut Steps<L>,
 ) -> Outlook
-    requires base { IsRelation base.now.joint base.now.order }
-    requires scratch { IsScratchOf base.now.joint scratch.old.joint scratch.old.order }
-    requires pair { p < count (sizes_of (system_of base.now.joint)) }
+    requires base { IsUpToDate base.now }
+    requires scratch { IsScratchOf base.now.joint scratch.old }
+    requires pair { p < joint_pairs base.now.joint }
     requires first { first < length base.now.joint.seats }
     requires second { IfSome second (λ j. (first < j) × (j < length base.now.joint.seats)) }
     ensures outlook { let s = system_of base.now.joint in let K = places first second in
         told result ≡ outlook (system_without way K s) (pair_without way K (pair_at (sizes_of s) p)) }
     ensures great { let s = system_of base.now.joint in let K = places first second in
         IsTrue result.composes ↔ Great (system_without way K s) (pair_without way K (pair_at (sizes_of s) p)) }
-    ensures scratch { IsScratchOf base.now.joint scratch.new.joint scratch.new.order }
+    ensures scratch { IsScratchOf base.now.joint scratch.new }
 {
     scratch.reset_to(base);
     match second {
@@ -67,11 +68,11 @@ pub(crate) fn fail_on<L: Ledger>(
     way: Way,
     steps: &mut Steps<L>,
 ) -> u32
-    requires scratch { IsIdleScratchOf from.now.joint scratch.old.joint scratch.old.order }
-    requires from { IsRelation from.now.joint from.now.order }
-    requires pair { p < count (sizes_of (system_of from.now.joint)) }
+    requires scratch { IsIdleScratchOf from.now.joint scratch.old }
+    requires from { IsUpToDate from.now }
+    requires pair { p < joint_pairs from.now.joint }
     requires place { k < length from.now.joint.seats }
-    ensures { IsLeft way (k ∷ []) from.now.joint p scratch.new.joint scratch.new.order result }
+    ensures { FailsTo way (k ∷ []) from.now p scratch.new result }
 {
     match way {
         Way::Freeze => {
@@ -87,10 +88,10 @@ pub(crate) fn fail_on<L: Ledger>(
 
 /// Makes the service at place `k` of `relation` fail. Returns the pair that remains of `p`.
 fn fail<L: Ledger>(relation: &mut Relation, p: u32, k: u8, way: Way, steps: &mut Steps<L>) -> u32
-    requires relation { IsRelation relation.old.joint relation.old.order }
-    requires pair { p < count (sizes_of (system_of relation.old.joint)) }
+    requires relation { IsUpToDate relation.old }
+    requires pair { p < joint_pairs relation.old.joint }
     requires place { k < length relation.old.joint.seats }
-    ensures { IsLeft way (k ∷ []) relation.old.joint p relation.new.joint relation.new.order result }
+    ensures { FailsTo way (k ∷ []) relation.old p relation.new result }
 {
     match way {
         Way::Freeze => freeze_seat(relation, p, k, steps),
@@ -101,10 +102,10 @@ fn fail<L: Ledger>(relation: &mut Relation, p: u32, k: u8, way: Way, steps: &mut
 /// Freezes the service at place `k`, unless it is frozen already. Returns `p`: a freeze keeps the
 /// pairs.
 fn freeze_seat<L: Ledger>(relation: &mut Relation, p: u32, k: u8, steps: &mut Steps<L>) -> u32
-    requires relation { IsRelation relation.old.joint relation.old.order }
-    requires pair { p < count (sizes_of (system_of relation.old.joint)) }
+    requires relation { IsUpToDate relation.old }
+    requires pair { p < joint_pairs relation.old.joint }
     requires place { k < length relation.old.joint.seats }
-    ensures { IsLeft Way.Freeze (k ∷ []) relation.old.joint p relation.new.joint relation.new.order result }
+    ensures { FailsTo Way.Freeze (k ∷ []) relation.old p relation.new result }
 {
     let seat = *relation.joint.seat(k);
     if seat.frozen {
@@ -120,9 +121,9 @@ fn freeze_seat<L: Ledger>(relation: &mut Relation, p: u32, k: u8, steps: &mut St
 fn lose_seat<L: Ledger>(relation: &mut Relation, p: u32, k: u8, steps: &mut Steps<L>) -> u32
     requires caps { HasCaps relation.old.joint relation.old.order }
     requires idle { relation.old.order.waiting ≡ [] }
-    requires pair { p < count (sizes_of (system_of relation.old.joint)) }
+    requires pair { p < joint_pairs relation.old.joint }
     requires place { k < length relation.old.joint.seats }
-    ensures { IsLeft Way.Die (k ∷ []) relation.old.joint p relation.new.joint relation.new.order result }
+    ensures { FailsTo Way.Die (k ∷ []) relation.old p relation.new result }
 {
     let left = relation.joint.shape().without(p, k);
     relation.joint.drop_seat(k);

@@ -1,23 +1,22 @@
 //! Tries the failures of each service and of each two services.
 ghost use Rattle.std.specs.Prelude.{◌≡◌, ℕ, ◌+◌, ◌*◌, ◌<◌, ◌≤◌, [], ◌∷◌, length, IfOk};
-ghost use Rattle.roman_model.specs.Numbers.{sizes_of, count};
-ghost use Rattle.roman_joint.specs.NamedSys.{NamedSys, system_of};
-ghost use Rattle.roman_relation.specs.Greatest.{IsRelation};
-ghost use Rattle.roman_whatif.specs.Left.{places, IsIdleScratchOf, IsLeft};
+ghost use Rattle.roman_model.specs.Numbers.{count};
+ghost use Rattle.roman_joint.specs.NamedSys.{NamedSys};
+ghost use Rattle.roman_relation.specs.Greatest.{IsUpToDate};
+ghost use Rattle.roman_whatif.specs.Left.{places, IsIdleScratchOf};
 ghost use Rattle.roman_whatif.specs.Told.{told};
-ghost use Rattle.roman_whatif.specs.Losses.{told_at, left_of, MayFail, IsToldOf, AreTold, AreLosses, AreTrialsOf};
+ghost use Rattle.roman_whatif.specs.Losses.{told_at, left_of, MayFail, AreTold, AreLosses, AreTrialsOf};
+ghost use Rattle.roman_whatif.specs.Scenarios.{left_in, AreToldIn, AreTrialsIn, IsLeftIn, IsScenario, IsToldIn};
+ghost use Rattle.roman_joint.specs.Pairs.{joint_pairs};
 
 use crate::alike::{is_repeated, is_third};
 use crate::failing::fail_on;
 use crate::outlook::{Outlook, now};
 use roman_io::Steps;
-use roman_model::{MAX_SERVICES, Way};
+use roman_model::{PLACES, Way};
 use roman_relation::Relation;
 use std::alloc::{AllocError, Global};
 use std::sync::ledger::Ledger;
-
-/// The number of outlooks in the row of a service in a table.
-const PLACES: usize = MAX_SERVICES as usize;
 
 /// The outlook in the places of a table that are not used.
 const NOTHING: Outlook = Outlook {
@@ -60,8 +59,8 @@ impl Losses {
         p: u32,
         steps: &mut Steps<L>,
     ) -> Result<Losses, AllocError>
-        requires base { IsRelation base.now.joint base.now.order }
-        requires pair { p < count (sizes_of (system_of base.now.joint)) }
+        requires base { IsUpToDate base.now }
+        requires pair { p < joint_pairs base.now.joint }
         ensures pair { IfOk result (λ losses. losses.pair ≡ p) }
         ensures losses { IfOk result (λ losses. AreLosses base.now.joint losses) }
     {
@@ -95,7 +94,7 @@ struct Trials {
 impl Trials {
     /// Copies a relation twice. Fails only when out of memory.
     fn build(alloc: Global, base: &Relation) -> Result<Trials, AllocError>
-        requires { IsRelation base.now.joint base.now.order }
+        requires { IsUpToDate base.now }
         ensures { IfOk result (λ trials. AreTrialsOf base.now.joint trials) }
     {
         let middle = base.scratch(alloc)?;
@@ -126,14 +125,24 @@ fn try_both_ways<L: Ledger>(
     trials: &mut Trials,
     steps: &mut Steps<L>,
 ) -> Result<Losses, AllocError>
-    requires base { IsRelation base.now.joint base.now.order }
-    requires pair { p < count (sizes_of (system_of base.now.joint)) }
+    requires base { IsUpToDate base.now }
+    requires pair { p < joint_pairs base.now.joint }
     requires trials { AreTrialsOf base.now.joint trials.old }
     ensures pair { IfOk result (λ losses. losses.pair ≡ p) }
     ensures losses { IfOk result (λ losses. AreLosses base.now.joint losses) }
 {
-    let frozen = try_all(alloc, base, p, Way::Freeze, trials, steps)?;
-    let gone = try_all(alloc, base, p, Way::Die, trials, steps)?;
+    let by_freezing = Scenario {
+        base,
+        pair: p,
+        way: Way::Freeze,
+    };
+    let frozen = try_all(alloc, &by_freezing, trials, steps)?;
+    let by_dying = Scenario {
+        base,
+        pair: p,
+        way: Way::Die,
+    };
+    let gone = try_all(alloc, &by_dying, trials, steps)?;
     Ok(Losses {
         pair: p,
         frozen,
@@ -141,26 +150,34 @@ fn try_both_ways<L: Ledger>(
     })
 }
 
-/// Tries the failures of each service and of each two services, in one way. Returns the table.
-/// Fails only when out of memory.
+/// Failures in one way of services of a relation, and a pair whose outlook they change.
+#[derive(Clone, Copy)]
+struct Scenario<'a> {
+    /// The relation before the failures.
+    base: &'a Relation,
+    /// The number of the pair in that relation.
+    pair: u32,
+    /// The way in which services fail.
+    way: Way,
+}
+
+/// Tries the failures of each service and of each two services. Returns the table. Fails only when
+/// out of memory.
 fn try_all<L: Ledger>(
     alloc: Global,
-    base: &Relation,
-    p: u32,
-    way: Way,
+    scenario: &Scenario<'_>,
     trials: &mut Trials,
     steps: &mut Steps<L>,
 ) -> Result<Vec<Outlook>, AllocError>
-    requires base { IsRelation base.now.joint base.now.order }
-    requires pair { p < count (sizes_of (system_of base.now.joint)) }
-    requires trials { AreTrialsOf base.now.joint trials.old }
-    ensures told { IfOk result (λ table. AreTold base.now.joint p way table.items) }
-    ensures trials { AreTrialsOf base.now.joint trials.new }
+    requires scenario { IsScenario scenario.now }
+    requires trials { AreTrialsIn scenario.now trials.old }
+    ensures told { IfOk result (λ table. AreToldIn scenario.now table.items) }
+    ensures trials { AreTrialsIn scenario.now trials.new }
 {
-    let seats = base.joint.seats();
+    let seats = scenario.base.joint.seats();
     let mut table = vec![in alloc; NOTHING; PLACES * seats as usize]?;
     for j in 0..seats {
-        fill_row(base, p, j, way, trials, &mut table, steps);
+        fill_row(scenario, j, trials, &mut table, steps);
     }
     Ok(table)
 }
@@ -168,30 +185,27 @@ fn try_all<L: Ledger>(
 /// Fills the row of the service at place `j` of the table, whose earlier rows are filled. Copies the
 /// row before if the service and the two before are alike, since both rows then have the same outlooks.
 fn fill_row<L: Ledger>(
-    base: &Relation,
-    p: u32,
+    scenario: &Scenario<'_>,
     j: u8,
-    way: Way,
     trials: &mut Trials,
     table: &mut [Outlook],
     steps: &mut Steps<L>,
 )
-    requires base { IsRelation base.now.joint base.now.order }
-    requires pair { p < count (sizes_of (system_of base.now.joint)) }
-    requires place { (j < length base.now.joint.seats) × (j < 32) }
-    requires trials { AreTrialsOf base.now.joint trials.old }
-    requires room { length table.old ≡ 32 * length base.now.joint.seats }
-    requires rows { (i : ℕ) → i < j → IsToldOf base.now.joint p way i table.old }
-    ensures told { IsToldOf base.now.joint p way j table.new }
+    requires scenario { IsScenario scenario.now }
+    requires place { (j < length scenario.now.base.now.joint.seats) × (j < 32) }
+    requires trials { AreTrialsIn scenario.now trials.old }
+    requires room { length table.old ≡ 32 * length scenario.now.base.now.joint.seats }
+    requires rows { (i : ℕ) → i < j → IsToldIn scenario.now i table.old }
+    ensures told { IsToldIn scenario.now j table.new }
     ensures before { (i : ℕ) → i < 32 * j → told_at table.new i ≡ told_at table.old i }
     ensures room { length table.new ≡ length table.old }
-    ensures trials { AreTrialsOf base.now.joint trials.new }
+    ensures trials { AreTrialsIn scenario.now trials.new }
 {
-    if is_third(base, p, j) {
+    if is_third(scenario.base, scenario.pair, j) {
         repeat_row(table, j - 1);
         return;
     }
-    try_with(base, p, j, way, trials, table, steps);
+    try_with(scenario, j, trials, table, steps);
 }
 
 /// Fills the row after that of the service at place `before` with copies from that row. The outlook
@@ -200,8 +214,10 @@ fn fill_row<L: Ledger>(
 fn repeat_row(table: &mut [Outlook], before: u8)
     requires some { (0 < before) × (before < 31) }
     requires room { 32 * before + 64 ≤ length table.old }
-    ensures two { (k : ℕ) → k < before → told_at table.new (32 * before + 32 + k) ≡ told_at table.old (32 * before + k) }
-    ensures last { (k : ℕ) → k + 1 ≡ before → told_at table.new (32 * before + 32 + before) ≡ told_at table.old (32 * before + k) }
+    ensures two { (k : ℕ) → k < before → told_at table.new (32 * before + 32 + k) ≡ told_at table.old
+        (32 * before + k) }
+    ensures last { (k : ℕ) → k + 1 ≡ before → told_at table.new (32 * before + 32 + before) ≡ told_at table.old
+        (32 * before + k) }
     ensures alone { told_at table.new (32 * before + 33 + before) ≡ told_at table.old (32 * before + before) }
     ensures before { (i : ℕ) → i < 32 * before + 32 → told_at table.new i ≡ told_at table.old i }
     ensures room { length table.new ≡ length table.old }
@@ -217,61 +233,69 @@ fn repeat_row(table: &mut [Outlook], before: u8)
 /// Tries the failure of the service at place `j`, and then the failure of each earlier service on
 /// top of it. Fills the row of the service at place `j` of the table.
 fn try_with<L: Ledger>(
-    base: &Relation,
-    p: u32,
+    scenario: &Scenario<'_>,
     j: u8,
-    way: Way,
     trials: &mut Trials,
     table: &mut [Outlook],
     steps: &mut Steps<L>,
 )
-    requires base { IsRelation base.now.joint base.now.order }
-    requires pair { p < count (sizes_of (system_of base.now.joint)) }
-    requires place { (j < length base.now.joint.seats) × (j < 32) }
-    requires trials { AreTrialsOf base.now.joint trials.old }
-    requires room { length table.old ≡ 32 * length base.now.joint.seats }
-    ensures told { IsToldOf base.now.joint p way j table.new }
+    requires scenario { IsScenario scenario.now }
+    requires place { (j < length scenario.now.base.now.joint.seats) × (j < 32) }
+    requires trials { AreTrialsIn scenario.now trials.old }
+    requires room { length table.old ≡ 32 * length scenario.now.base.now.joint.seats }
+    ensures told { IsToldIn scenario.now j table.new }
     ensures before { (i : ℕ) → i < 32 * j → told_at table.new i ≡ told_at table.old i }
     ensures room { length table.new ≡ length table.old }
-    ensures trials { AreTrialsOf base.now.joint trials.new }
+    ensures trials { AreTrialsIn scenario.now trials.new }
 {
-    let left = fail_on(&mut trials.middle, base, p, j, way, steps);
+    let left = fail_on(
+        &mut trials.middle,
+        scenario.base,
+        scenario.pair,
+        j,
+        scenario.way,
+        steps,
+    );
     let row = PLACES * j as usize;
     table[row + j as usize] = now(&trials.middle, left);
     for k in 0..j {
-        let outlook = try_second(base, p, j, k, left, way, trials, table, steps);
+        let outlook = try_second(scenario, j, k, left, trials, table, steps);
         table[row + k as usize] = outlook;
     }
 }
 
 /// Returns the outlook after the services at the places `k` and `j` fail. The middle is without the
-/// service at place `j`, and `left` is what remains of the pair `p` there. If the service at place `k`
+/// service at place `j`, and `left` is what remains of the pair there. If the service at place `k`
 /// and the one before are alike, the row of `j` in the table has the outlook already.
 fn try_second<L: Ledger>(
-    base: &Relation,
-    p: u32,
+    scenario: &Scenario<'_>,
     j: u8,
     k: u8,
     left: u32,
-    way: Way,
     trials: &mut Trials,
     table: &[Outlook],
     steps: &mut Steps<L>,
 ) -> Outlook
-    requires base { IsRelation base.now.joint base.now.order }
-    requires pair { p < count (sizes_of (system_of base.now.joint)) }
-    requires places { (k < j) × (j < length base.now.joint.seats) × (j < 32) }
-    requires middle { IsLeft way (j ∷ []) base.now.joint p trials.old.middle.joint trials.old.middle.order left }
-    requires scratch { IsIdleScratchOf base.now.joint trials.old.scratch.joint trials.old.scratch.order }
-    requires room { length table.now ≡ 32 * length base.now.joint.seats }
-    requires two { (i : ℕ) → i < k → told_at table.now (32 * j + i) ≡ left_of base.now.joint p way (i ∷ j ∷ []) }
-    ensures told { told result ≡ left_of base.now.joint p way (k ∷ j ∷ []) }
+    requires scenario { IsScenario scenario.now }
+    requires places { (k < j) × (j < length scenario.now.base.now.joint.seats) × (j < 32) }
+    requires middle { IsLeftIn scenario.now (j ∷ []) trials.old.middle left }
+    requires scratch { IsIdleScratchOf scenario.now.base.now.joint trials.old.scratch }
+    requires room { length table.now ≡ 32 * length scenario.now.base.now.joint.seats }
+    requires two { (i : ℕ) → i < k → told_at table.now (32 * j + i) ≡ left_in scenario.now (i ∷ j ∷ []) }
+    ensures told { told result ≡ left_in scenario.now (k ∷ j ∷ []) }
     ensures middle { trials.new.middle ≡ trials.old.middle }
-    ensures scratch { IsIdleScratchOf base.now.joint trials.new.scratch.joint trials.new.scratch.order }
+    ensures scratch { IsIdleScratchOf scenario.now.base.now.joint trials.new.scratch }
 {
-    if is_repeated(base, p, k) {
+    if is_repeated(scenario.base, scenario.pair, k) {
         return table[PLACES * j as usize + k as usize - 1];
     }
-    let last = fail_on(&mut trials.scratch, &trials.middle, left, k, way, steps);
+    let last = fail_on(
+        &mut trials.scratch,
+        &trials.middle,
+        left,
+        k,
+        scenario.way,
+        steps,
+    );
     now(&trials.scratch, last)
 }

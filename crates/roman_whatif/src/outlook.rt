@@ -4,8 +4,9 @@ ghost use Rattle.roman_model.specs.Composition.{Great};
 ghost use Rattle.roman_model.specs.Numbers.{sizes_of, count, pair_at};
 ghost use Rattle.roman_model.specs.Without.{outlook};
 ghost use Rattle.roman_joint.specs.NamedSys.{system_of};
-ghost use Rattle.roman_relation.specs.Greatest.{IsRelation};
+ghost use Rattle.roman_relation.specs.Greatest.{IsUpToDate};
 ghost use Rattle.roman_whatif.specs.Told.{told};
+ghost use Rattle.roman_joint.specs.Pairs.{joint_pairs};
 
 use roman_relation::Relation;
 
@@ -24,8 +25,8 @@ pub struct Outlook {
 /// Returns the outlook of the pair `p` in the present system of a relation. Requires a complete
 /// list. Allocates no memory.
 pub fn now(relation: &Relation, p: u32) -> Outlook
-    requires relation { IsRelation relation.now.joint relation.now.order }
-    requires pair { p < count (sizes_of (system_of relation.now.joint)) }
+    requires relation { IsUpToDate relation.now }
+    requires pair { p < joint_pairs relation.now.joint }
     ensures outlook { let s = system_of relation.now.joint in told result ≡ outlook s (pair_at (sizes_of s) p) }
     ensures great { let s = system_of relation.now.joint in IsTrue result.composes ↔ Great s (pair_at (sizes_of s) p) }
 {

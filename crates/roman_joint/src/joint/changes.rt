@@ -57,10 +57,12 @@ impl Joint {
         requires behaviour { seat.behaviour < length self.old.catalogue }
         requires name { IsIn seat.name (map (λ other. other.name) self.old.seats) → ⊥ }
         ensures seats { OnOk result (self.new ≡ record self.old { seats = self.old.seats ++ seat ∷ [] }) }
-        ensures system { OnOk result (system_of self.new ≡ after (Join (seat_of self.old.catalogue seat)) (system_of self.old)) }
+        ensures system { OnOk result (system_of self.new ≡ after (Join (seat_of self.old.catalogue seat))
+            (system_of self.old)) }
         ensures full { (result ≡ Err SeatError.Full) ↔ (length self.old.seats ≡ MAX_SERVICES) }
         ensures limit { (result ≡ Err SeatError.Limit)
-            ↔ ((length self.old.seats < MAX_SERVICES) × (self.old.limit < cells (after (Join (seat_of self.old.catalogue seat)) (system_of self.old)))) }
+            ↔ ((length self.old.seats < MAX_SERVICES) ×
+            (self.old.limit < cells (after (Join (seat_of self.old.catalogue seat)) (system_of self.old)))) }
         ensures refused { OnErr result (self.new ≡ self.old) }
     {
         if self.seats.len() == MAX_SERVICES as usize {

@@ -2,12 +2,13 @@
 ghost use Rattle.std.specs.Prelude.{◌≡◌, ℕ, ◌+◌, ◌*◌, ◌<◌, ◌≤◌, ◌∷◌, [], length, slice_index, IsTrue, IsFalse};
 ghost use Rattle.roman_model.specs.Lists.{IsIn, is_empty};
 ghost use Rattle.roman_model.specs.SystemArena.{beh_next};
-ghost use Rattle.roman_model.specs.Numbers.{sizes_of, count, number, pair_at, numbered};
+ghost use Rattle.roman_model.specs.Numbers.{sizes_of, count, number, pair_at};
 ghost use Rattle.roman_model.specs.declared.limits.TheConstants.{MAX_CELLS};
 ghost use Rattle.roman_radix.specs.Radix.{stride_of, env_stride_of, moved};
 ghost use Rattle.roman_joint.specs.NamedSys.{system_of};
 ghost use Rattle.roman_joint.specs.TargetViews.{AreTargetViews, IsTargetView};
 ghost use Rattle.roman_joint.specs.Outcomes.{outcome_number, outcome_numbers, IsPairWith};
+ghost use Rattle.roman_joint.specs.Pairs.{joint_pairs, joint_pair, joint_actions, arena_of};
 
 use super::Joint;
 use crate::outcomes::Outcomes;
@@ -19,9 +20,9 @@ impl Joint {
     /// Returns whether the target allows the action `a` at the pair `p`: whether both the target and
     /// the environment have a step by it there.
     pub fn allowed(&self, p: u32, a: u8) -> bool
-        requires pair { p < count (sizes_of (system_of self.now)) }
-        requires action { a < (system_of self.now).env.actions }
-        ensures { result ≡ (numbered (system_of self.now)).allows p a }
+        requires pair { p < joint_pairs self.now }
+        requires action { a < joint_actions self.now }
+        ensures { result ≡ (arena_of self.now).allows p a }
     {
         self.known(); // the system is well formed
         let t = self.shape().target_of(p);
@@ -40,7 +41,7 @@ impl Joint {
     // actions.
     #[tactic(auto, using(std::proofs::lemmas::Nat::div_below, crate::proofs::SplitLemmas::joint_sizes, crate::proofs::SplitLemmas::positive_of))]
     pub(crate) fn target_view_at(&self, p: u32) -> TargetView
-        requires { p < count (sizes_of (system_of self.now)) }
+        requires { p < joint_pairs self.now }
         ensures { let s = system_of self.now in
             IsTargetView s.env s.target (pair_at (sizes_of s) p).t (pair_at (sizes_of s) p).e result }
     {
@@ -52,8 +53,8 @@ impl Joint {
     /// final, all services that rest are in final states.
     #[tactic(auto, using(crate::proofs::ArenaFacts::pair_count))]
     pub fn final_ok(&self, p: u32) -> bool
-        requires { p < count (sizes_of (system_of self.now)) }
-        ensures { result ≡ (numbered (system_of self.now)).fine p }
+        requires { p < joint_pairs self.now }
+        ensures { result ≡ (arena_of self.now).fine p }
     {
         let lanes = self.lanes();
         let row = self.row(p / lanes);
@@ -65,15 +66,15 @@ impl Joint {
     /// allowed at the pair, and that the service is ready. The list of the service's states is empty
     /// where it has no step.
     pub fn outcomes(&self, p: u32, a: u8, k: u8) -> Outcomes<'_>
-        requires pair { p < count (sizes_of (system_of self.now)) }
+        requires pair { p < joint_pairs self.now }
         requires seat { k < length self.now.seats }
-        requires allowed { IsTrue ((numbered (system_of self.now)).allows p a) }
-        requires ready { IsTrue ((numbered (system_of self.now)).ready k) }
-        ensures numbers { (numbered (system_of self.now)).outcomes p a k ≡ outcome_numbers result }
+        requires allowed { IsTrue ((arena_of self.now).allows p a) }
+        requires ready { IsTrue ((arena_of self.now).ready k) }
+        ensures numbers { (arena_of self.now).outcomes p a k ≡ outcome_numbers result }
         ensures places { (e b : ℕ) → IsIn e result.envs.now → IsIn b result.states.now
             → IsPairWith (sizes_of (system_of self.now)) k (outcome_number result e b) e b }
         ensures some { IsFalse (is_empty result.envs.now) }
-        ensures few { count (sizes_of (system_of self.now)) ≤ MAX_CELLS }
+        ensures few { joint_pairs self.now ≤ MAX_CELLS }
     {
         self.known(); // behaviours are over the environment, a pair's number fits 32 bits
         let shape = self.shape();
@@ -92,12 +93,12 @@ impl Joint {
     // Returns the target's state after the action `a` at the pair `p`. Requires that the action is
     // allowed there, and that `e` is the environment's state.
     fn target_after(&self, p: u32, e: u8, a: u8) -> u8
-        requires pair { p < count (sizes_of (system_of self.now)) }
-        requires env { e ≡ (pair_at (sizes_of (system_of self.now)) p).e }
-        requires allowed { IsTrue ((numbered (system_of self.now)).allows p a) }
-        ensures next { beh_next (system_of self.now).target (pair_at (sizes_of (system_of self.now)) p).t e a ≡ result ∷ [] }
+        requires pair { p < joint_pairs self.now }
+        requires env { e ≡ (joint_pair self.now p).e }
+        requires allowed { IsTrue ((arena_of self.now).allows p a) }
+        ensures next { beh_next (system_of self.now).target (joint_pair self.now p).t e a ≡ result ∷ [] }
         ensures below { result < (system_of self.now).target.states }
-        ensures action { a < (system_of self.now).env.actions }
+        ensures action { a < joint_actions self.now }
     {
         self.known(); // the target is over the environment
         let t = self.shape().target_of(p);

@@ -1,9 +1,9 @@
 //! The names of states, actions and services.
-ghost use Rattle.std.specs.Prelude.{◌≡◌, ◌<◌, length, slice_index};
+ghost use Rattle.std.specs.Prelude.{◌≡◌, ◌<◌, length};
 ghost use Rattle.roman_model.specs.Explanation.{name_at, seat_names};
-ghost use Rattle.roman_model.specs.Numbers.{sizes_of};
 ghost use Rattle.roman_joint.specs.NamedSys.{system_of};
 ghost use Rattle.roman_joint.specs.Names.{names_in};
+ghost use Rattle.roman_joint.specs.Pairs.{seat_states, joint_actions};
 
 use super::Joint;
 use roman_parts::Name;
@@ -27,7 +27,7 @@ impl Joint {
 
     /// Returns the name of the action `a`.
     pub fn action_name(&self, a: u8) -> &Name
-        requires { a < (system_of self.now).env.actions }
+        requires { a < joint_actions self.now }
         ensures { result.now ≡ name_at (names_in self.now).actions a }
     {
         self.environment().actions().at(u32::from(a))
@@ -44,7 +44,7 @@ impl Joint {
     /// Returns the name of the state `b` of the service at place `k`.
     pub fn state_name(&self, k: u8, b: u8) -> &Name
         requires seat { k < length self.now.seats }
-        requires state { b < slice_index (sizes_of (system_of self.now)).seats k }
+        requires state { b < seat_states self.now k }
         ensures { result.now ≡ name_at (seat_names (names_in self.now) k).states b }
     {
         self.known(); // behaviours are over the environment

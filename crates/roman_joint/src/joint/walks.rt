@@ -3,9 +3,9 @@ ghost use Rattle.std.specs.Prelude.{◌≡◌, ◌+◌, ◌<◌, ◌≤◌, ◌�
 ghost use Rattle.roman_model.specs.Lists.{HoldsEachOnce};
 ghost use Rattle.roman_model.specs.SystemArena.{env_prev, beh_prev};
 ghost use Rattle.roman_model.specs.Arena.{back};
-ghost use Rattle.roman_model.specs.Numbers.{sizes_of, count, numbered};
 ghost use Rattle.roman_joint.specs.NamedSys.{system_of};
 ghost use Rattle.roman_joint.specs.Walks.{goal_of, IsWalk, WalkGoesOn, left, left_of_seat, left_of_target, left_of_env, left_of_action, left_of_all};
+ghost use Rattle.roman_joint.specs.Pairs.{joint_pairs, arena_of};
 
 use super::Joint;
 use super::looks::first_outcome;
@@ -19,9 +19,9 @@ impl Joint {
     /// Begins a walk backwards from the pair `p2`. The walk takes each delegation that can lead to
     /// `p2` exactly once. Its action is allowed at its pair, and its service is ready.
     pub fn walk(&self, p2: u32) -> Walk
-        requires { p2 < count (sizes_of (system_of self.now)) }
+        requires { p2 < joint_pairs self.now }
         ensures walk { IsWalk (system_of self.now) result }
-        ensures left { HoldsEachOnce (left (system_of self.now) result) (back (numbered (system_of self.now)) p2) }
+        ensures left { HoldsEachOnce (left (system_of self.now) result) (back (arena_of self.now) p2) }
     {
         self.known(); // the system is well formed
         Walk {
@@ -43,7 +43,8 @@ impl Joint {
         requires { IsWalk (system_of self.now) walk.old }
         ensures walk { IsWalk (system_of self.now) walk.new }
         ensures given { MatchOption result (left (system_of self.now) walk.old ≡ [])
-            (λ d. left (system_of self.now) walk.old ≡ record { node = d.0; action = d.1; seat = d.2 } ∷ left (system_of self.now) walk.new) }
+            (λ d. left (system_of self.now) walk.old
+            ≡ record { node = d.0; action = d.1; seat = d.2 } ∷ left (system_of self.now) walk.new) }
         ensures step { MatchOption result (steps.new ≡ steps.old) (λ d. steps.new ≡ steps.old + 1) }
     {
         'on: loop {
@@ -64,7 +65,8 @@ impl Joint {
         ensures walk { IsWalk (system_of self.now) walk.new }
         ensures action { walk.new.action ≡ walk.old.action }
         ensures taken { MatchOption result ((walk.new ≡ walk.old) × (left_of_seat (system_of self.now) walk.old ≡ []))
-            (λ x. left (system_of self.now) walk.old ≡ record { node = x.0; action = walk.old.action; seat = x.1 } ∷ left (system_of self.now) walk.new) }
+            (λ x. left (system_of self.now) walk.old
+            ≡ record { node = x.0; action = walk.old.action; seat = x.1 } ∷ left (system_of self.now) walk.new) }
     {
         self.known(); // the system is well formed, a pair's number fits 32 bits
         let place = walk.seat;
@@ -141,7 +143,8 @@ impl Joint {
     // at the pair.
     fn targets_before(&self, walk: &Walk) -> &[u8]
         requires { IsWalk (system_of self.now) walk.now }
-        ensures prev { result.now ≡ beh_prev (system_of self.now).target (goal_of (system_of self.now) walk.now).t walk.now.env walk.now.action }
+        ensures prev { result.now ≡ beh_prev (system_of self.now).target
+            (goal_of (system_of self.now) walk.now).t walk.now.env walk.now.action }
         ensures below { All (λ t. t < (system_of self.now).target.states) result.now }
     {
         self.known(); // the target is over the environment
@@ -178,7 +181,8 @@ impl Joint {
     // state at the pair.
     fn envs_before(&self, walk: &Walk) -> &[u8]
         requires { IsWalk (system_of self.now) walk.now }
-        ensures prev { result.now ≡ env_prev (system_of self.now).env (goal_of (system_of self.now) walk.now).e walk.now.action }
+        ensures prev { result.now ≡ env_prev (system_of self.now).env
+            (goal_of (system_of self.now) walk.now).e walk.now.action }
         ensures below { All (λ e. e < (system_of self.now).env.states) result.now }
     {
         self.known(); // the environment is well formed

@@ -4,25 +4,25 @@ ghost use Rattle.std.specs.List.{AllByRecursion, IsDistinct, filter};
 ghost use Rattle.roman_model.specs.Lists.{below};
 ghost use Rattle.roman_lanes.specs.Rows.{is_on};
 ghost use Rattle.roman_order.specs.Board.{pairs_of, set_lanes, nodes_of, place_in_list};
-ghost use Rattle.roman_order.specs.Events.{IsEvent, entries_of};
+ghost use Rattle.roman_order.specs.Batches.{IsBatch, entries_of};
 ghost use Rattle.roman_order.specs.Sound.{AreStamps, with_stamps};
 
-use super::reading::event_in;
+use super::reading::batch_in;
 use super::{Order, refill};
-use crate::event::Event;
+use crate::batch::Batch;
 use crate::flags::{first_lane, is_set, lanes_in};
 
 impl Order {
     /// Returns the place of the pair `p` in the list, from 0, or `None` where it isn't listed. Looks
     /// it up if [`place_all`](Order::place_all) was called since the list last changed, and otherwise
-    /// searches for it event by event.
+    /// searches for it batch by batch.
     #[tactic(auto, using(crate::proofs::Tables::stamp_rules))]
     pub fn stamp(&self, p: u32) -> Option<u32>
         requires { p < pairs_of self.now }
         ensures { result ≡ place_in_list self.now.list p }
     {
         let Some(&stamp) = self.stamps.get(p as usize) else {
-            return place_in(&self.events, self.lanes, p);
+            return place_in(&self.batches, self.lanes, p);
         };
         if stamp == u32::MAX { None } else { Some(stamp) }
     }
@@ -38,27 +38,27 @@ impl Order {
                 (self.rows * self.lanes) as usize,
                 u32::MAX,
             );
-            write_stamps(&mut self.stamps, &self.events, self.lanes);
+            write_stamps(&mut self.stamps, &self.batches, self.lanes);
         }
     }
 }
 
-/// Returns the place of the pair `p`. Searches the events from the first one on.
-fn place_in(events: &[Event], lanes: u32, p: u32) -> Option<u32>
+/// Returns the place of the pair `p`. Searches the batches from the first one on.
+fn place_in(batches: &[Batch], lanes: u32, p: u32) -> Option<u32>
     requires lanes { (0 < lanes) × (lanes ≤ 64) }
-    requires each { AllByRecursion (IsEvent lanes) events.now }
-    requires few { length (entries_of lanes events.now) < 2 ^ 32 }
-    ensures { result ≡ place_in_list (entries_of lanes events.now) p }
+    requires each { AllByRecursion (IsBatch lanes) batches.now }
+    requires few { length (entries_of lanes batches.now) < 2 ^ 32 }
+    ensures { result ≡ place_in_list (entries_of lanes batches.now) p }
 {
     let x = p / lanes;
     let lane = p % lanes;
     let mut place = 0;
-    for j in 0..events.len() {
-        let event = event_in(events, j);
-        if has_lane(event.row, event.lanes, x, lane) {
-            return Some(place + lanes_before(event.lanes, lane));
+    for j in 0..batches.len() {
+        let batch = batch_in(batches, j);
+        if has_lane(batch.row, batch.lanes, x, lane) {
+            return Some(place + lanes_before(batch.lanes, lane));
         }
-        place += lanes_in(event.lanes);
+        place += lanes_in(batch.lanes);
     }
     None
 }
@@ -81,26 +81,26 @@ fn lanes_before(word: u64, lane: u32) -> u32
 }
 
 /// Writes each entry's place as the stamp of its pair. Requires a table without stamps.
-fn write_stamps(stamps: &mut [u32], events: &[Event], lanes: u32)
+fn write_stamps(stamps: &mut [u32], batches: &[Batch], lanes: u32)
     requires blank { (p : ℕ) → p < length stamps.old → slice_index stamps.old p ≡ 2 ^ 32 - 1 }
-    requires apart { IsDistinct (λ x y. x == y) (nodes_of (entries_of lanes events.now)) }
-    requires rows { (rows : ℕ) × (rows * lanes ≡ length stamps.old) × AllByRecursion (λ e. e.row < rows) events.now }
+    requires apart { IsDistinct (λ x y. x == y) (nodes_of (entries_of lanes batches.now)) }
+    requires rows { (rows : ℕ) × (rows * lanes ≡ length stamps.old) × AllByRecursion (λ e. e.row < rows) batches.now }
     requires lanes { 0 < lanes }
-    requires each { AllByRecursion (IsEvent lanes) events.now }
+    requires each { AllByRecursion (IsBatch lanes) batches.now }
     requires few { length stamps.old < 2 ^ 32 }
-    requires fits { length (entries_of lanes events.now) < 2 ^ 32 }
-    ensures { AreStamps (entries_of lanes events.now) stamps.new }
+    requires fits { length (entries_of lanes batches.now) < 2 ^ 32 }
+    ensures { AreStamps (entries_of lanes batches.now) stamps.new }
 {
     let mut place = 0;
-    for j in 0..events.len() {
-        let event = event_in(events, j);
-        place = write_event(stamps, event.row * lanes, event.lanes, place);
+    for j in 0..batches.len() {
+        let batch = batch_in(batches, j);
+        place = write_batch(stamps, batch.row * lanes, batch.lanes, place);
     }
 }
 
-/// Writes the places of an event's entries, from `place` on, and returns the next place.
+/// Writes the places of a batch's entries, from `place` on, and returns the next place.
 #[tactic(auto, using(crate::proofs::Lanes::lane_rules))]
-fn write_event(stamps: &mut [u32], first: u32, word: u64, place: u32) -> u32
+fn write_batch(stamps: &mut [u32], first: u32, word: u64, place: u32) -> u32
     requires within { (lane : ℕ) → is_on word lane ≡ true → first + lane < length stamps.old }
     requires few { length stamps.old < 2 ^ 32 }
     requires fits { place + length (set_lanes word) < 2 ^ 32 }

@@ -1,13 +1,13 @@
 //! Adding entries.
 ghost use Rattle.std.specs.Prelude.{◌≡◌, ◌≢◌, ℕ, ◌+◌, ◌*◌, ◌<◌, ◌≤◌, true, false, List, [], ◌∷◌, ◌++◌, length, slice_index, vec_capacity};
 ghost use Rattle.roman_lanes.specs.Rows.{is_on};
-ghost use Rattle.roman_order.specs.Board.{pairs_of, as_entry, set_lanes, entries_in, entries_in_rows, has_entry};
-ghost use Rattle.roman_order.specs.Events.{IsEvent, TakesLanes, entries_at, entries_of};
+ghost use Rattle.roman_order.specs.Board.{pairs_of, as_entry, set_lanes, entries_in, entries_in_rows, has_entry, AreAliveAt};
+ghost use Rattle.roman_order.specs.Batches.{IsBatch, TakesLanes, entries_at, entries_of};
 ghost use Rattle.roman_order.specs.Sound.{AreCounted, places_of};
-ghost use Rattle.roman_order.specs.declared.event.Event.{Event};
+ghost use Rattle.roman_order.specs.declared.batch.Batch.{Batch};
 
 use super::Order;
-use crate::event::Event;
+use crate::batch::Batch;
 use crate::flags::{lanes_in, lowest};
 use roman_model::Reason;
 
@@ -29,7 +29,8 @@ impl Order {
         requires row { x < self.old.rows }
         requires lane { lane < self.old.lanes }
         requires alive { has_entry self.old.list (x * self.old.lanes + lane) ≡ false }
-        ensures { self.new ≡ record self.old { list = self.old.list ++ as_entry (x * self.old.lanes + lane, reason) ∷ [] } }
+        ensures { self.new
+            ≡ record self.old { list = self.old.list ++ as_entry (x * self.old.lanes + lane, reason) ∷ [] } }
     {
         prove!(self.lanes <= 64);
         self.push_lanes(x, 1 << lane, reason);
@@ -41,31 +42,31 @@ impl Order {
     pub fn push_lanes(&mut self, x: u32, lost: u64, reason: Reason)
         requires row { x < self.old.rows }
         requires within { (lane : ℕ) → is_on lost lane ≡ true → lane < self.old.lanes }
-        requires alive { (lane : ℕ) → is_on lost lane ≡ true → has_entry self.old.list (x * self.old.lanes + lane) ≡ false }
+        requires alive { AreAliveAt self.old.list self.old.lanes x lost }
         ensures { self.new ≡ record self.old { list = self.old.list ++ entries_in self.old.lanes x lost reason } }
     {
         self.push_row::<false>(x, lost, reason);
     }
 
-    /// Adds entries as [`push_lanes`](Order::push_lanes) does. They go into the last event where that one
+    /// Adds entries as [`push_lanes`](Order::push_lanes) does. They go into the last batch where that one
     /// is of the same row and reason and all its lanes are lower.
     #[inline(always)]
     pub fn push_on(&mut self, x: u32, lost: u64, reason: Reason)
         requires row { x < self.old.rows }
         requires within { (lane : ℕ) → is_on lost lane ≡ true → lane < self.old.lanes }
-        requires alive { (lane : ℕ) → is_on lost lane ≡ true → has_entry self.old.list (x * self.old.lanes + lane) ≡ false }
+        requires alive { AreAliveAt self.old.list self.old.lanes x lost }
         ensures { self.new ≡ record self.old { list = self.old.list ++ entries_in self.old.lanes x lost reason } }
     {
         self.push_row::<true>(x, lost, reason);
     }
 
-    /// Adds the entries of a row. If `JOINS` is true, they go into the last event where that one takes them.
+    /// Adds the entries of a row. If `JOINS` is true, they go into the last batch where that one takes them.
     #[inline(always)]
     #[tactic(auto, using(crate::proofs::Tables::few))]
     fn push_row<const JOINS: bool>(&mut self, x: u32, lost: u64, reason: Reason)
         requires row { x < self.old.rows }
         requires within { (lane : ℕ) → is_on lost lane ≡ true → lane < self.old.lanes }
-        requires alive { (lane : ℕ) → is_on lost lane ≡ true → has_entry self.old.list (x * self.old.lanes + lane) ≡ false }
+        requires alive { AreAliveAt self.old.list self.old.lanes x lost }
         ensures { self.new ≡ record self.old { list = self.old.list ++ entries_in self.old.lanes x lost reason } }
     {
         if lost == 0 {
@@ -73,12 +74,12 @@ impl Order {
         }
         self.words[x as usize] &= !lost;
         self.stamps.clear();
-        let event = Event {
+        let batch = Batch {
             row: x,
             reason,
             lanes: lost,
         };
-        add_event::<JOINS>(&mut self.events, &mut self.firsts, self.count, event);
+        add_batch::<JOINS>(&mut self.batches, &mut self.firsts, self.count, batch);
         self.count += lanes_in(lost);
     }
 
@@ -89,8 +90,13 @@ impl Order {
     pub fn push_rows(&mut self, x: u32, lost: &[u64], reason: Reason)
         requires rows { x + length lost.now ≤ self.old.rows }
         requires within { (i lane : ℕ) → is_on (slice_index lost.now i) lane ≡ true → lane < self.old.lanes }
-        requires alive { (i lane : ℕ) → is_on (slice_index lost.now i) lane ≡ true → has_entry self.old.list ((x + i) * self.old.lanes + lane) ≡ false }
-        ensures { self.new ≡ record self.old { list = self.old.list ++ entries_in_rows self.old.lanes x (length lost.now) lost.now reason } }
+        requires alive { (i lane : ℕ) → is_on (slice_index lost.now i) lane ≡ true →
+            has_entry self.old.list ((x + i) * self.old.lanes + lane) ≡ false }
+        ensures { self.new
+            ≡ record self.old {
+              list = self.old.list ++ entries_in_rows self.old.lanes x
+                  (length lost.now) lost.now reason;
+            } }
     {
         prove!(x as usize + lost.len() <= self.rows as usize);
         for i in 0..lost.len() {
@@ -99,49 +105,55 @@ impl Order {
     }
 }
 
-/// Adds an event to others, which have `count` entries. If `JOINS` is true, its lanes go into the last of
+/// Adds a batch to others, which have `count` entries. If `JOINS` is true, its lanes go into the last of
 /// these where that one takes them.
 #[inline(always)]
-fn add_event<const JOINS: bool>(
-    events: &mut Vec<Event>,
+fn add_batch<const JOINS: bool>(
+    batches: &mut Vec<Batch>,
     firsts: &mut Vec<u32>,
     count: u32,
-    event: Event,
+    batch: Batch,
 )
-    requires lanes { event.lanes ≢ 0 }
-    requires few { length firsts.old.items ≤ length events.old.items }
-    requires room { (length events.old.items < vec_capacity events.old) × (length firsts.old.items < vec_capacity firsts.old) }
-    ensures entries { (lanes : ℕ) → entries_of lanes events.new.items ≡ entries_of lanes events.old.items ++ entries_at lanes event }
-    ensures counted { (lanes : ℕ) → AreCounted lanes count (places_of (length events.old.items) firsts.old.items) events.old.items → IsEvent lanes event →
-        AreCounted lanes (count + length (set_lanes event.lanes)) (places_of (length events.new.items) firsts.new.items) events.new.items }
-    ensures room { (vec_capacity events.new ≡ vec_capacity events.old) × (vec_capacity firsts.new ≡ vec_capacity firsts.old) }
+    requires lanes { batch.lanes ≢ 0 }
+    requires few { length firsts.old.items ≤ length batches.old.items }
+    requires room { (length batches.old.items < vec_capacity batches.old)
+        × (length firsts.old.items < vec_capacity firsts.old) }
+    ensures entries { (lanes : ℕ) → entries_of lanes batches.new.items
+        ≡ entries_of lanes batches.old.items ++ entries_at lanes batch }
+    ensures counted { (lanes : ℕ) → AreCounted lanes count
+        (places_of (length batches.old.items) firsts.old.items) batches.old.items → IsBatch lanes batch →
+        AreCounted lanes (count + length (set_lanes batch.lanes))
+        (places_of (length batches.new.items) firsts.new.items) batches.new.items }
+    ensures room { (vec_capacity batches.new ≡ vec_capacity batches.old)
+        × (vec_capacity firsts.new ≡ vec_capacity firsts.old) }
 {
-    if JOINS && takes(events, event) {
-        let Some(last) = events.pop() else {
+    if JOINS && takes(batches, batch) {
+        let Some(last) = batches.pop() else {
             unreachable!()
         };
-        let lanes = last.lanes | event.lanes;
-        events.push_reserved(Event { lanes, ..last });
+        let lanes = last.lanes | batch.lanes;
+        batches.push_reserved(Batch { lanes, ..last });
         return;
     }
-    push_first(firsts, events.len(), count);
-    events.push_reserved(event);
+    push_first(firsts, batches.len(), count);
+    batches.push_reserved(batch);
 }
 
-/// Returns whether the last event takes the lanes of another one, which has lanes: it is of the same row
+/// Returns whether the last batch takes the lanes of another one, which has lanes: it is of the same row
 /// and reason, and all its lanes are lower.
-fn takes(events: &[Event], event: Event) -> bool
-    requires { event.lanes ≢ 0 }
-    ensures some { result ≡ true → 0 < length events.now }
-    ensures last { result ≡ true → (front : List Event) (e : Event) → events.now ≡ front ++ e ∷ [] → TakesLanes e event }
+fn takes(batches: &[Batch], batch: Batch) -> bool
+    requires { batch.lanes ≢ 0 }
+    ensures some { result ≡ true → 0 < length batches.now }
+    ensures last { result ≡ true → (front : List Batch) (e : Batch) → batches.now ≡ front ++ e ∷ [] →
+        TakesLanes e batch }
 {
-    let Some(last) = events.last() else {
+    let Some(last) = batches.last() else {
         return false;
     };
-    last.row == event.row && last.reason == event.reason && last.lanes >> lowest(event.lanes) == 0
+    last.row == batch.row && last.reason == batch.reason && last.lanes >> lowest(batch.lanes) == 0
 }
 
-/// Adds the place of the first entry of an event after `many` others. A place that equals its number is
+/// Adds the place of the first entry of a batch after `many` others. A place that equals its number is
 /// left out of the table as long as all places before it are.
 #[inline(always)]
 #[tactic(auto, using(crate::proofs::Firsts::push_rules))]

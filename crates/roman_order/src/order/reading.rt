@@ -4,89 +4,90 @@ ghost use Rattle.std.specs.List.{AllByRecursion};
 ghost use Rattle.roman_lanes.specs.Rows.{is_on};
 ghost use Rattle.roman_model.specs.Lists.{IsIn};
 ghost use Rattle.roman_order.specs.Board.{as_entry, set_lanes};
-ghost use Rattle.roman_order.specs.Events.{IsApart, IsEvent, entries_at, entries_of};
+ghost use Rattle.roman_order.specs.Batches.{IsApart, IsBatch, entries_at, entries_of};
 ghost use Rattle.roman_order.specs.Sound.{places_of};
-ghost use Rattle.roman_order.specs.Walks.{AreUnkept, IsEventOf};
-ghost use Rattle.roman_order.specs.declared.event.Event.{Event};
+ghost use Rattle.roman_order.specs.ReadAhead.{AreUnkept, IsBatchOf};
+ghost use Rattle.roman_order.specs.declared.batch.Batch.{Batch};
 
 use super::Order;
 use crate::ahead::Ahead;
-use crate::event::Event;
+use crate::batch::Batch;
 use crate::flags::first_lane;
 use roman_model::Reason;
 
 impl Order {
-    /// Returns the list as events. The entries of the events, in order, are those of the list.
-    pub fn events(&self) -> &[Event]
+    /// Returns the list as batches. The entries of the batches, in order, are those of the list.
+    pub fn batches(&self) -> &[Batch]
         ensures list { entries_of self.now.lanes result.now ≡ self.now.list }
-        ensures each { AllByRecursion (IsEvent self.now.lanes) result.now }
+        ensures each { AllByRecursion (IsBatch self.now.lanes) result.now }
     {
-        &self.events
+        &self.batches
     }
 
-    /// Returns the entries from place `i` of the list on, up to the end of their event: the whole
-    /// event, or its last entries. `near` is a guess of the event's place among all events, and can
+    /// Returns the entries from place `i` of the list on, up to the end of their batch: the whole
+    /// batch, or its last entries. `near` is a guess of the batch's place among all batches, and can
     /// be any number. A wrong guess costs a search.
-    #[tactic(auto, using(crate::proofs::Reading::event_rules))]
-    pub fn event_at(&self, i: u32, near: usize) -> Event
+    #[tactic(auto, using(crate::proofs::Reading::batch_rules))]
+    pub fn batch_at(&self, i: u32, near: usize) -> Batch
         requires { i < length self.now.list }
         ensures entries { drop i self.now.list
             ≡ entries_at self.now.lanes result ++ drop (i + length (set_lanes result.lanes)) self.now.list }
-        ensures event { IsEvent self.now.lanes result }
+        ensures batch { IsBatch self.now.lanes result }
         ensures within { i + length (set_lanes result.lanes) ≤ length self.now.list }
         ensures row { result.row < self.now.rows }
     {
-        let (event, first) = self.event_of(i, near);
-        let lanes = without_lowest(event.lanes, i - first);
-        Event { lanes, ..event }
+        let (batch, first) = self.batch_of(i, near);
+        let lanes = without_lowest(batch.lanes, i - first);
+        Batch { lanes, ..batch }
     }
 
-    /// Returns the event with the entry at place `i` of the list, and the place of its first entry.
+    /// Returns the batch with the entry at place `i` of the list, and the place of its first entry.
     #[inline(always)]
-    #[tactic(auto, using(crate::proofs::Reading::event_rules))]
-    fn event_of(&self, i: u32, near: usize) -> (Event, u32)
+    #[tactic(auto, using(crate::proofs::Reading::batch_rules))]
+    fn batch_of(&self, i: u32, near: usize) -> (Batch, u32)
         requires { i < length self.now.list }
-        ensures { IsEventOf self.now.rows self.now.lanes self.now.list i result.1 result.0 }
+        ensures { IsBatchOf self.now.rows self.now.lanes self.now.list i result.1 result.0 }
     {
-        let (place, first) = place_of(&self.firsts, self.events.len(), i, near);
-        (event_in(&self.events, place), first)
+        let (place, first) = place_of(&self.firsts, self.batches.len(), i, near);
+        (batch_in(&self.batches, place), first)
     }
 
     /// Passes over entries from place `i` of the list on whose pairs have no bit in the kept words,
-    /// event by event, and returns the place after them, at most the length of the list, with a guess
-    /// of its event. `near` is a guess of the event of place `i`. After a wrong guess no entry is
+    /// batch by batch, and returns the place after them, at most the length of the list, with a guess
+    /// of its batch. `near` is a guess of the batch of place `i`. After a wrong guess no entry is
     /// passed over.
     #[tactic(auto, using(crate::proofs::Tables::few))]
     pub fn past_unkept(&self, i: u32, near: usize) -> (u32, usize)
         requires { i ≤ length self.now.list }
         ensures { AreUnkept self.now i result.0 }
     {
-        let many = self.events.len();
+        let many = self.batches.len();
         if near >= many || first_in(&self.firsts, many, near) != i {
             return (i, near);
         }
-        let next = next_kept(&self.events, &self.before, near);
+        let next = next_kept(&self.batches, &self.before, near);
         (first_of(&self.firsts, many, next, self.count), next)
     }
 
-    /// Returns the entry at place `i` of the list, from 0: the pair and the reason. Finds its event by
+    /// Returns the entry at place `i` of the list, from 0: the pair and the reason. Finds its batch by
     /// a binary search.
     pub fn entry(&self, i: u32) -> (u32, Reason)
         requires { i < length self.now.list }
         ensures { slice_get self.now.list i ≡ Some (as_entry result) }
     {
-        let event = self.event_at(i, usize::MAX);
-        self.take_ahead(i, &mut Ahead { event, next: 0 })
+        let batch = self.batch_at(i, usize::MAX);
+        self.take_ahead(i, &mut Ahead { batch, next: 0 })
     }
 }
 
-/// Returns the number of the last of `many` events that begins at place `i` of the list or before, and
-/// the place where it begins. `near` is a guess of an event that begins at place `i`.
+/// Returns the number of the last of `many` batches that begins at place `i` of the list or before, and
+/// the place where it begins. `near` is a guess of a batch that begins at place `i`.
 fn place_of(firsts: &[u32], many: usize, i: u32, near: usize) -> (usize, u32)
     requires some { 0 < many }
     requires few { (length firsts.now ≤ many) × (many < 2 ^ 32) }
     requires start { slice_index (places_of many firsts.now) 0 ≤ i }
-    requires rising { (j : ℕ) → j + 1 < many → slice_index (places_of many firsts.now) j < slice_index (places_of many firsts.now) (j + 1) }
+    requires rising { (j : ℕ) → j + 1 < many → slice_index (places_of many firsts.now) j < slice_index
+        (places_of many firsts.now) (j + 1) }
     ensures within { result.0 < many }
     ensures first { result.1 ≡ slice_index (places_of many firsts.now) result.0 }
     ensures from { result.1 ≤ i }
@@ -108,7 +109,7 @@ fn place_of(firsts: &[u32], many: usize, i: u32, near: usize) -> (usize, u32)
     (low, first_in(firsts, many, low))
 }
 
-/// Returns the place of the first entry of event `j` of `many`. `firsts` leaves out the first places
+/// Returns the place of the first entry of batch `j` of `many`. `firsts` leaves out the first places
 /// that equal their numbers.
 #[inline(always)]
 #[tactic(auto, using(crate::proofs::Firsts::first_rules))]
@@ -124,16 +125,16 @@ fn first_in(firsts: &[u32], many: usize, j: usize) -> u32
     firsts[j - alone]
 }
 
-/// Returns the event at place `j` of a table.
-#[tactic(auto, using(crate::proofs::Reading::one_event))]
-pub(super) fn event_in(events: &[Event], j: usize) -> Event
-    requires { j < length events.now }
-    ensures { drop j events.now ≡ result ∷ drop (j + 1) events.now }
+/// Returns the batch at place `j` of a table.
+#[tactic(auto, using(crate::proofs::Reading::one_batch))]
+pub(super) fn batch_in(batches: &[Batch], j: usize) -> Batch
+    requires { j < length batches.now }
+    ensures { drop j batches.now ≡ result ∷ drop (j + 1) batches.now }
 {
-    events[j]
+    batches[j]
 }
 
-/// Returns the place of the first entry of event `j` of `many`. After the last event it is `count`, the
+/// Returns the place of the first entry of batch `j` of `many`. After the last batch it is `count`, the
 /// length of the list.
 #[tactic(auto, using(crate::proofs::Firsts::first_rules))]
 fn first_of(firsts: &[u32], many: usize, j: usize, count: u32) -> u32
@@ -147,21 +148,21 @@ fn first_of(firsts: &[u32], many: usize, j: usize, count: u32) -> u32
     }
 }
 
-/// Returns the place of the first event from place `from` on of which some lane is in the word of its
-/// row, or the number of events.
-fn next_kept(events: &[Event], words: &[u64], from: usize) -> usize
-    requires from { from ≤ length events.now }
-    requires rows { AllByRecursion (λ e. e.row < length words.now) events.now }
-    ensures within { (from ≤ result) × (result ≤ length events.now) }
-    ensures apart { (e : Event) → IsIn e (take (result - from) (drop from events.now)) → IsApart words.now e }
+/// Returns the place of the first batch from place `from` on of which some lane is in the word of its
+/// row, or the number of batches.
+fn next_kept(batches: &[Batch], words: &[u64], from: usize) -> usize
+    requires from { from ≤ length batches.now }
+    requires rows { AllByRecursion (λ e. e.row < length words.now) batches.now }
+    ensures within { (from ≤ result) × (result ≤ length batches.now) }
+    ensures apart { (e : Batch) → IsIn e (take (result - from) (drop from batches.now)) → IsApart words.now e }
 {
-    for j in from..events.len() {
-        let event = events[j];
-        if !is_apart(words[event.row as usize], event.lanes) {
+    for j in from..batches.len() {
+        let batch = batches[j];
+        if !is_apart(words[batch.row as usize], batch.lanes) {
             return j;
         }
     }
-    events.len()
+    batches.len()
 }
 
 // Returns whether two words have no lane in common.

@@ -34,8 +34,10 @@ impl Order {
     /// Keeps the present words of `many` rows from the row `x` on. The kept words of other rows stay.
     pub fn keep_rows(&mut self, x: u32, many: u32)
         requires { x + many ≤ self.old.rows }
-        ensures kept { (y : ℕ) → x ≤ y → y < x + many → HasLanes self.old.lanes y (λ p. not (has_entry self.old.list p)) (slice_index self.new.before y) }
-        ensures others { (y : ℕ) → (y < x) ⊎ (x + many ≤ y) → slice_index self.new.before y ≡ slice_index self.old.before y }
+        ensures kept { (y : ℕ) → x ≤ y → y < x + many → HasLanes self.old.lanes y
+            (λ p. not (has_entry self.old.list p)) (slice_index self.new.before y) }
+        ensures others { (y : ℕ) → (y < x) ⊎ (x + many ≤ y) →
+            slice_index self.new.before y ≡ slice_index self.old.before y }
         ensures long { length self.new.before ≡ length self.old.before }
         ensures rest { self.new ≡ record self.old { before = self.new.before } }
     {

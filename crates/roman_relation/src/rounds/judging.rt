@@ -8,10 +8,7 @@ ghost use Rattle.roman_relation.specs.Rounds.{AddsLost, AddsTo, IsJudged, falls}
 use super::listing::{are_listed, band_start, push_lost};
 use roman_model::Reason;
 use roman_order::Order;
-use roman_rules::{Rules, copy_rows};
-
-/// The greatest number of rows in a band.
-const BAND: usize = 64;
+use roman_rules::{BAND, Rules, copy_rows};
 
 /// Judges the marked bands, and clears their marks.
 pub(crate) fn judge_marked<J: Rules>(joint: &J, order: &mut Order)
@@ -22,9 +19,11 @@ pub(crate) fn judge_marked<J: Rules>(joint: &J, order: &mut Order)
         (p : ℕ) → p < length A.nodes → is_marked order.new (p / J.lanes joint.now / J.band joint.now) ≡ false }
     ensures adds { let A = J.arena joint.now in
         (gone : ℕ → Bool) → AreRows (J.lanes joint.now) (λ p. not (gone p)) order.old.before →
-        AddsTo A gone (λ p. IsTrue (falls A gone p) × (is_marked order.old (p / J.lanes joint.now / J.band joint.now) ≡ true)) order.old.list order.new.list }
+        AddsTo A gone (λ p. IsTrue (falls A gone p) ×
+        (is_marked order.old (p / J.lanes joint.now / J.band joint.now) ≡ true)) order.old.list order.new.list }
     ensures done { let A = J.arena joint.now in
-        (gone : ℕ → Bool) (p : ℕ) → AreRows (J.lanes joint.now) (λ p. not (gone p)) order.old.before → p < length A.nodes →
+        (gone : ℕ → Bool) (p : ℕ) → AreRows (J.lanes joint.now) (λ p. not (gone p)) order.old.before →
+        p < length A.nodes →
         is_marked order.old (p / J.lanes joint.now / J.band joint.now) ≡ true → IsJudged A gone order.new.list p }
 {
     joint.known(); // a row has 1 to 64 lanes, a band has 1 to 64 rows
@@ -48,9 +47,11 @@ fn judge<J: Rules>(joint: &J, order: &mut Order, y: u32, is_band: bool, left: &m
     ensures long { length left.new ≡ length left.old }
     ensures adds { let A = J.arena joint.now in
         (gone : ℕ → Bool) → AreRows (J.lanes joint.now) (λ p. not (gone p)) order.old.before →
-        AddsTo A gone (λ p. IsTrue (falls A gone p) × (p / J.lanes joint.now / J.band joint.now ≡ y)) order.old.list order.new.list }
+        AddsTo A gone (λ p. IsTrue (falls A gone p) × (p / J.lanes joint.now / J.band joint.now ≡ y))
+        order.old.list order.new.list }
     ensures done { let A = J.arena joint.now in
-        (gone : ℕ → Bool) (i lane : ℕ) → AreRows (J.lanes joint.now) (λ p. not (gone p)) order.old.before → is_band ≡ true → i < J.band joint.now → lane < J.lanes joint.now →
+        (gone : ℕ → Bool) (i lane : ℕ) → AreRows (J.lanes joint.now) (λ p. not (gone p)) order.old.before →
+        is_band ≡ true → i < J.band joint.now → lane < J.lanes joint.now →
         IsJudged A gone order.new.list ((y * J.band joint.now + i) * J.lanes joint.now + lane) }
 {
     if !is_band {

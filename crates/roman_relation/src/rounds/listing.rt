@@ -24,7 +24,8 @@ pub(crate) fn are_listed<J: Rules>(joint: &J, order: &Order, x: u32) -> bool
     requires shaped { IsShaped (J.arena joint.now) (J.lanes joint.now) order.now }
     requires band { x + J.band joint.now ≤ order.now.rows }
     ensures { let A = J.arena joint.now in
-        result ≡ true → (i lane : ℕ) → i < J.band joint.now → lane < J.lanes joint.now → IsTrue (is_listed A order.now.list ((x + i) * J.lanes joint.now + lane)) }
+        result ≡ true → (i lane : ℕ) → i < J.band joint.now → lane < J.lanes joint.now →
+        IsTrue (is_listed A order.now.list ((x + i) * J.lanes joint.now + lane)) }
 {
     joint.known(); // pairs are told apart by their numbers
     order.known(); // listed pairs are pairs of the system
@@ -43,7 +44,8 @@ pub(crate) fn push_lost<J: Rules>(
     requires shaped { IsShaped (J.arena joint.now) (J.lanes joint.now) order.old }
     requires band { x + J.band joint.now ≤ order.old.rows }
     requires long { length lost.now ≡ J.band joint.now }
-    requires lost { (gone : ℕ → Bool) × AreLostRows (J.arena joint.now) gone order.old.list (J.lanes joint.now) x (J.band joint.now) reason lost.now }
+    requires lost { (gone : ℕ → Bool) × AreLostRows (J.arena joint.now) gone order.old.list (J.lanes joint.now) x
+        (J.band joint.now) reason lost.now }
     ensures adds { let A = J.arena joint.now in
         (gone : ℕ → Bool) → AreLostRows A gone order.old.list (J.lanes joint.now) x (J.band joint.now) reason lost.now →
         AddsLost A gone (J.lanes joint.now) x (J.band joint.now) reason order.old.list order.new.list }

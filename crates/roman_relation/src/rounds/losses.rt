@@ -5,18 +5,18 @@ ghost use Rattle.roman_lanes.specs.Rows.{is_on};
 ghost use Rattle.roman_model.specs.Arena.{is_listed, fall};
 ghost use Rattle.roman_model.specs.Lists.{IsIn};
 ghost use Rattle.roman_order.specs.Board.{is_marked};
-ghost use Rattle.roman_order.specs.Events.{IsEvent, entries_at};
-ghost use Rattle.roman_order.specs.Walks.{AreUnkept};
+ghost use Rattle.roman_order.specs.Batches.{IsBatch, entries_at};
+ghost use Rattle.roman_order.specs.ReadAhead.{AreUnkept};
 ghost use Rattle.roman_relation.specs.Shaped.{IsShaped};
 ghost use Rattle.roman_relation.specs.Rounds.{AreUnlisted, AreNoted, moves_noted, moves_to_all};
 
 use roman_io::Steps;
-use roman_order::{Event, Order};
+use roman_order::{Batch, Order};
 use roman_rules::Rules;
 use std::sync::ledger::Ledger;
 
 /// Marks the bands that lead to the pairs of the entries from `start` on, and keeps the words of the
-/// bands of these pairs. If `near` is the number of events before `start`, the first event is found at
+/// bands of these pairs. If `near` is the number of batches before `start`, the first batch is found at
 /// once.
 pub(crate) fn mark_losses<J: Rules, L: Ledger>(
     joint: &J,
@@ -30,11 +30,13 @@ pub(crate) fn mark_losses<J: Rules, L: Ledger>(
     requires kept { AreUnlisted (J.arena joint.now) (J.lanes joint.now) (take start order.old.list) order.old.before }
     ensures kept { AreUnlisted (J.arena joint.now) (J.lanes joint.now) order.new.list order.new.before }
     ensures marked { let A = J.arena joint.now in
-        (p q a k : ℕ) → p < length A.nodes → IsIn q (A.outcomes p a k) → IsTrue (is_listed A order.new.list q) → IsFalse (is_listed A (take start order.new.list) q) →
+        (p q a k : ℕ) → p < length A.nodes → IsIn q (A.outcomes p a k) → IsTrue (is_listed A order.new.list q) →
+        IsFalse (is_listed A (take start order.new.list) q) →
         is_marked order.new (p / J.lanes joint.now / J.band joint.now) ≡ true }
     ensures rest { order.new ≡ record order.old { marks = order.new.marks; before = order.new.before } }
     ensures cost { steps.new ≤ steps.old + fall (J.arena joint.now) (drop start order.new.list) }
-    ensures steps { steps.new ≡ steps.old + moves_to_all (J.arena joint.now) (J.lanes joint.now) (J.band joint.now) (J.mid joint.now) order.old.rows (drop start order.new.list) }
+    ensures steps { steps.new ≡ steps.old + moves_to_all (J.arena joint.now) (J.lanes joint.now) (J.band joint.now)
+        (J.mid joint.now) order.old.rows (drop start order.new.list) }
 {
     joint.known(); // a row has 1 to 64 lanes, pairs are told apart by their numbers
     order.known(); // listed pairs are pairs of the system
@@ -42,9 +44,9 @@ pub(crate) fn mark_losses<J: Rules, L: Ledger>(
     let mut guess = near;
     let mut i = start;
     'losses: while i < end {
-        let event = order.event_at(i, guess);
-        mark_event(joint, order, event, steps);
-        let (next, near) = next_loss(joint, order, i + event.len(), guess.wrapping_add(1));
+        let batch = order.batch_at(i, guess);
+        mark_batch(joint, order, batch, steps);
+        let (next, near) = next_loss(joint, order, i + batch.len(), guess.wrapping_add(1));
         i = next;
         guess = near;
     }
@@ -52,8 +54,8 @@ pub(crate) fn mark_losses<J: Rules, L: Ledger>(
 }
 
 /// Passes over entries from place `i` of the list on whose bands are noted, and returns the place after
-/// them, with a guess of its event. `near` is a guess of the event of place `i`. A band of one row has
-/// few events in a round, so none is passed over there.
+/// them, with a guess of its batch. `near` is a guess of the batch of place `i`. A band of one row has
+/// few batches in a round, so none is passed over there.
 fn next_loss<J: Rules>(joint: &J, order: &Order, i: u32, near: usize) -> (u32, usize)
     requires { i ≤ length order.now.list }
     ensures { AreUnkept order.now i result.0 }
@@ -64,19 +66,21 @@ fn next_loss<J: Rules>(joint: &J, order: &Order, i: u32, near: usize) -> (u32, u
     order.past_unkept(i, near)
 }
 
-/// Marks the bands that lead to the band of an event, and keeps the words of the event's band. Does
-/// nothing if the kept word of the event's row has none of the event's lanes.
-fn mark_event<J: Rules, L: Ledger>(joint: &J, order: &mut Order, event: Event, steps: &mut Steps<L>)
+/// Marks the bands that lead to the band of a batch, and keeps the words of the batch's band. Does
+/// nothing if the kept word of the batch's row has none of the batch's lanes.
+fn mark_batch<J: Rules, L: Ledger>(joint: &J, order: &mut Order, batch: Batch, steps: &mut Steps<L>)
     requires shaped { IsShaped (J.arena joint.now) (J.lanes joint.now) order.old }
-    requires row { event.row < order.old.rows }
-    requires event { IsEvent (J.lanes joint.now) event }
-    requires listed { (lane : ℕ) → is_on event.lanes lane ≡ true →
-        IsTrue (is_listed (J.arena joint.now) order.old.list (event.row * J.lanes joint.now + lane)) }
+    requires row { batch.row < order.old.rows }
+    requires batch { IsBatch (J.lanes joint.now) batch }
+    requires listed { (lane : ℕ) → is_on batch.lanes lane ≡ true →
+        IsTrue (is_listed (J.arena joint.now) order.old.list (batch.row * J.lanes joint.now + lane)) }
     ensures rest { order.new ≡ record order.old { marks = order.new.marks; before = order.new.before } }
-    ensures cost { steps.new ≤ steps.old + fall (J.arena joint.now) (entries_at (J.lanes joint.now) event) }
-    ensures noted { let A = J.arena joint.now in let lanes = J.lanes joint.now in let band = J.band joint.now in let y = event.row / band in
+    ensures cost { steps.new ≤ steps.old + fall (J.arena joint.now) (entries_at (J.lanes joint.now) batch) }
+    ensures noted { let A = J.arena joint.now in let lanes = J.lanes joint.now in let band = J.band joint.now in
+        let y = batch.row / band in
         (start : ℕ) (noted more : ℕ → Bool) → AreNoted A lanes band start noted order.old →
-        ((lane : ℕ) → is_on event.lanes lane ≡ true → IsFalse (is_listed A (take start order.old.list) (event.row * lanes + lane))) →
+        ((lane : ℕ) → is_on batch.lanes lane ≡ true →
+        IsFalse (is_listed A (take start order.old.list) (batch.row * lanes + lane))) →
         more y ≡ true → ((z : ℕ) → z ≢ y → more z ≡ noted z) →
         AreNoted A lanes band start more order.new
         × (steps.new + moves_noted A lanes band (J.mid joint.now) order.old.rows noted
@@ -84,12 +88,12 @@ fn mark_event<J: Rules, L: Ledger>(joint: &J, order: &mut Order, event: Event, s
 {
     joint.known(); // a row has 1 to 64 lanes, a band has 1 to 64 rows
     order.known(); // each row has a kept word
-    let before = order.before()[event.row as usize];
-    if !meets(before, event.lanes) {
+    let before = order.before()[batch.row as usize];
+    if !meets(before, batch.lanes) {
         return;
     }
     let band = joint.band();
-    let y = event.row / band;
+    let y = batch.row / band;
     let row = joint.first_row(y);
     joint.mark_before(&row, order.marks_mut(), steps);
     order.keep_rows(y * band, band);

@@ -8,10 +8,7 @@ ghost use Rattle.roman_relation.specs.Settled.{SettlesOn};
 use super::listing::{are_listed, band_start, push_lost};
 use roman_model::Reason;
 use roman_order::Order;
-use roman_rules::{Rules, copy_rows};
-
-/// The greatest number of rows in a band.
-const BAND: usize = 64;
+use roman_rules::{BAND, Rules, copy_rows};
 
 /// Lists the pairs that aren't listed and don't meet clause 2.
 pub(crate) fn list_unfine<J: Rules>(joint: &J, order: &mut Order)

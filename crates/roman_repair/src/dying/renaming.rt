@@ -2,20 +2,21 @@
 ghost use Rattle.std.specs.Prelude.{◌≡◌, ◌+◌, ◌*◌, ◌<◌, ◌≤◌, ◌||◌, not, [], length, slice_index};
 ghost use Rattle.roman_model.specs.System.{Seat, is_final};
 ghost use Rattle.roman_model.specs.Change.{Die, CanChange};
-ghost use Rattle.roman_model.specs.Numbers.{sizes_of, sizes_without, count, numbered, pair_at};
+ghost use Rattle.roman_model.specs.Numbers.{sizes_of, sizes_without, count};
 ghost use Rattle.roman_model.specs.NumberedChange.{rename_numbers};
 ghost use Rattle.roman_radix.specs.Rows.{lanes_of};
 ghost use Rattle.roman_joint.specs.NamedSys.{system_of};
 ghost use Rattle.roman_joint.specs.Rows.{lanes_in};
 ghost use Rattle.roman_order.specs.Board.{pairs_of};
-ghost use Rattle.roman_order.specs.Events.{entries_at};
+ghost use Rattle.roman_order.specs.Batches.{entries_at};
 ghost use Rattle.roman_relation.specs.Shaped.{IsShaped};
 ghost use Rattle.roman_repair.specs.Deaths.{AreInPart, CanRename, IsPart, IsWithin, Renames, entries_from};
+ghost use Rattle.roman_joint.specs.Pairs.{joint_pairs, joint_pair, arena_of};
 
 use crate::lanes::first_part;
 use roman_joint::Joint;
 use roman_model::Reason;
-use roman_order::{Event, Order};
+use roman_order::{Batch, Order};
 use roman_radix::Shape;
 use roman_rules::Rules;
 
@@ -47,9 +48,9 @@ pub(crate) struct Leaver {
 /// or the state is final.
 fn may_go(joint: &Joint, k: u8, p: u32) -> bool
     requires seat { k < length joint.now.seats }
-    requires pair { p < count (sizes_of (system_of joint.now)) }
+    requires pair { p < joint_pairs joint.now }
     ensures { (seat : Seat) → CanChange (Die k seat) (system_of joint.now) →
-        result ≡ (not seat.rests || is_final seat.beh (slice_index (pair_at (sizes_of (system_of joint.now)) p).bs k)) }
+        result ≡ (not seat.rests || is_final seat.beh (slice_index (joint_pair joint.now p).bs k)) }
 {
     joint.known(); // behaviours are over the environment
     let rests = joint.seat(k).rests;
@@ -70,7 +71,8 @@ fn rename_part(
 )
     requires ready { CanRename joint.now leaver order.old }
     requires part { AreInPart (sizes_of (system_of joint.now)) leaver.k first word }
-    ensures list { Renames (system_of joint.now) leaver.k (entries_from first word reason) [] order.old.list order.new.list }
+    ensures list { Renames (system_of joint.now) leaver.k
+        (entries_from first word reason) [] order.old.list order.new.list }
     ensures rest { order.new ≡ record order.old { list = order.new.list } }
 {
     order.known(); // a row has 1 to 64 lanes
@@ -84,22 +86,23 @@ fn rename_part(
     order.push_on(x, lost, reason);
 }
 
-/// Renames the entries of the event, part by part, and appends to the list, for each renamed pair of
+/// Renames the entries of the batch, part by part, and appends to the list, for each renamed pair of
 /// which there is no entry yet, the first entry in which the service may leave its state behind.
-fn rename_row(joint: &Joint, order: &mut Order, leaver: Leaver, event: Event)
+fn rename_row(joint: &Joint, order: &mut Order, leaver: Leaver, batch: Batch)
     requires ready { CanRename joint.now leaver order.old }
-    requires within { IsWithin (system_of joint.now) event }
-    ensures list { Renames (system_of joint.now) leaver.k (entries_at (lanes_in (system_of joint.now)) event) [] order.old.list order.new.list }
+    requires within { IsWithin (system_of joint.now) batch }
+    ensures list { Renames (system_of joint.now) leaver.k (entries_at
+        (lanes_in (system_of joint.now)) batch) [] order.old.list order.new.list }
     ensures rest { order.new ≡ record order.old { list = order.new.list } }
 {
     let shape = joint.shape();
     shape.known(); // no size is 0, a pair's number fits 32 bits
     let width = part_width(shape, leaver.k);
-    let first = event.row * joint.lanes();
-    let mut left = event.lanes;
+    let first = batch.row * joint.lanes();
+    let mut left = batch.lanes;
     'left: while left != 0 {
         let (i, part, rest) = first_part(left, width);
-        rename_part(joint, order, leaver, first + i * width, part, event.reason);
+        rename_part(joint, order, leaver, first + i * width, part, batch.reason);
         left = rest;
     }
 }
@@ -108,7 +111,7 @@ fn rename_row(joint: &Joint, order: &mut Order, leaver: Leaver, event: Event)
 /// that no entry waits.
 #[tactic(auto, using(crate::proofs::DeathEntries::renaming))]
 pub(crate) fn rename_list(joint: &Joint, order: &mut Order, k: u8)
-    requires shaped { IsShaped (numbered (system_of joint.now)) (lanes_in (system_of joint.now)) order.old }
+    requires shaped { IsShaped (arena_of joint.now) (lanes_in (system_of joint.now)) order.old }
     requires seat { k < length joint.now.seats }
     requires idle { order.old.waiting ≡ [] }
     ensures list { (seat : Seat) → CanChange (Die k seat) (system_of joint.now) →
@@ -125,7 +128,7 @@ pub(crate) fn rename_list(joint: &Joint, order: &mut Order, k: u8)
     let lanes = small.lanes();
     let leaver = Leaver { k, lanes };
     order.reopen(small.rows(), lanes);
-    'waiting: while let Some(event) = order.next_waiting_event() {
-        rename_row(joint, order, leaver, event);
+    'waiting: while let Some(batch) = order.next_waiting_batch() {
+        rename_row(joint, order, leaver, batch);
     }
 }

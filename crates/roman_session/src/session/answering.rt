@@ -8,9 +8,11 @@ ghost use Rattle.roman_text.specs.Shapes.{explain, shape_of_event};
 ghost use Rattle.roman_session.specs.Situations.{present_system, IsPhase};
 ghost use Rattle.roman_session.specs.States.{IsGreat};
 ghost use Rattle.roman_session.specs.Steps.{shown};
-ghost use Rattle.roman_session.specs.Answering.{Answered, AnsweredOn, DoneOn, NamesSome, SeenStaysGreat, next_after, next_of};
+ghost use Rattle.roman_session.specs.Answering.{Answered, AnsweredOn, DoneOn, NamesSome, ObservedStaysGreat, next_after, next_of};
 
 use super::Session;
+use crate::events::JoinWords;
+use crate::events::ServiceChange::{Die, Freeze, Thaw};
 use crate::next::Next;
 use roman_cert::write_slice;
 use roman_io::{Failed, Sink, Steps};
@@ -34,6 +36,7 @@ impl Session {
     ///
     /// Fails only when the sink's count of faults rose. The session has then changed all the same,
     /// and a prefix of the reply was written.
+    #[tactic(auto, using(crate::proofs::StepLemmas::requests_offered))]
     pub fn answer<O: Sink, L: Ledger>(
         &mut self,
         line: &[u8],
@@ -46,7 +49,7 @@ impl Session {
 
         // An `offer` names a service, and after a possible outcome the current pair is related.
         ensures offered { NamesSome self.old }
-        ensures related { SeenStaysGreat self.old line.now self.new }
+        ensures related { ObservedStaysGreat self.old line.now self.new }
         ensures phase { IsPhase self.new self.new.phase }
     {
         self.known(); // the situation is well formed
@@ -70,7 +73,8 @@ impl Session {
         out: &mut O,
         steps: &mut Steps<L>,
     ) -> Result<Next, Failed>
-        ensures step { AnsweredOn self.old line.now self.new (O.written out.old) (O.written out.new) page.old page.new result }
+        ensures step { AnsweredOn self.old line.now self.new (O.written out.old) (O.written out.new)
+            page.old page.new result }
         ensures next { IfOk result (λ next. next ≡ next_of line.now) }
         ensures cause { HasCause (O.faults out.old) (O.faults out.new) result }
     {
@@ -95,14 +99,15 @@ impl Session {
         out: &mut O,
         steps: &mut Steps<L>,
     ) -> Result<(), Failed>
-        ensures step { DoneOn self.old (shape_of_event event.entry) self.new (O.written out.old) (O.written out.new) page.old page.new result }
+        ensures step { DoneOn self.old (shape_of_event event.entry) self.new (O.written out.old) (O.written out.new)
+            page.old page.new result }
         ensures cause { HasCause (O.faults out.old) (O.faults out.new) result }
     {
         match event {
             Event::Nothing => Ok(()),
             Event::Ask(action) => self.answer_request(action, page, out),
-            Event::Hand(service) => self.answer_hand(service, page, out),
-            Event::Saw { state, env } => self.answer_sight(state, env, page, out),
+            Event::Hand(service) => self.answer_delegate(service, page, out),
+            Event::Saw { state, env } => self.answer_observe(state, env, page, out),
             Event::Abort => self.answer_abort(page, out),
             Event::Jump { service, state } => self.answer_jump(service, state, page, out),
             Event::JumpEnv(env) => self.answer_jump_env(env, page, out),
@@ -111,29 +116,38 @@ impl Session {
                 self.push_report(page, out)
             }
             Event::Quit => page.push_reply(&Reply::Bye, out),
-            Event::Freeze(service) => self.answer_freeze(service, page, out, steps),
-            Event::Thaw(service) => self.answer_thaw(service, page, out, steps),
-            Event::Die(service) => self.answer_die(service, page, out, steps),
+            Event::Freeze(service) => self.answer_change(Freeze, service, page, out, steps),
+            Event::Thaw(service) => self.answer_change(Thaw, service, page, out, steps),
+            Event::Die(service) => self.answer_change(Die, service, page, out, steps),
             Event::Join {
                 service,
                 behaviour,
                 state,
                 loose,
-            } => self.answer_join(service, behaviour, state, loose, page, out, steps),
-            Event::Explain => self.answer_question(page, out, steps),
+            } => {
+                let words = JoinWords {
+                    service,
+                    behaviour,
+                    state,
+                    loose,
+                };
+                self.answer_join(words, page, out, steps)
+            }
+            Event::Explain => self.answer_explain(page, out, steps),
         }
     }
 
     /// Answers `explain`. Pushes a refusal on the page. Writes an explanation to the sink, after the
     /// bytes that the page held.
     #[tactic(auto, using(crate::proofs::AnswerLemmas::done))]
-    fn answer_question<O: Sink, L: Ledger>(
+    fn answer_explain<O: Sink, L: Ledger>(
         &mut self,
         page: &mut Page,
         out: &mut O,
         steps: &mut Steps<L>,
     ) -> Result<(), Failed>
-        ensures step { DoneOn self.old explain self.new (O.written out.old) (O.written out.new) page.old page.new result }
+        ensures step { DoneOn self.old explain self.new (O.written out.old) (O.written out.new)
+            page.old page.new result }
         ensures cause { HasCause (O.faults out.old) (O.faults out.new) result }
     {
         self.known(); // the situation is well formed
@@ -153,7 +167,8 @@ impl Session {
     ) -> Result<(), Failed>
         requires { IsGreat (shown self.old) → ⊥ }
         ensures gathers { let s = self.old in
-            Gathers (O.written out.old) (O.written out.new) page.new (page.old ++ explain_text (present_system s) (names_in s.parts) s.list s.here) result }
+            Gathers (O.written out.old) (O.written out.new) page.new
+            (page.old ++ explain_text (present_system s) (names_in s.parts) s.list s.here) result }
         ensures stays { self.new ≡ self.old }
         ensures cause { HasCause (O.faults out.old) (O.faults out.new) result }
     {

@@ -1,15 +1,20 @@
 //! Freezes, thaws, removes and adds services.
-ghost use Rattle.std.specs.Prelude.{◌≡◌};
+ghost use Rattle.std.specs.Prelude.{◌≡◌, ◌<◌, length, Some, slice_get, vec_capacity};
+ghost use Rattle.roman_model.specs.System.{Seat};
+ghost use Rattle.roman_joint.specs.NamedSys.{system_of};
+ghost use Rattle.roman_relation.specs.Greatest.{IsRelation};
+ghost use Rattle.roman_repair.specs.Repairs.{IsRepaired};
 ghost use Rattle.roman_io.specs.Faults.{HasCause};
 ghost use Rattle.roman_text.specs.Replies.{reply_text};
-ghost use Rattle.roman_text.specs.Shapes.{freeze, thaw, die, join};
-ghost use Rattle.roman_session.specs.Rules.{AddsService, IsNewcomer};
+ghost use Rattle.roman_session.specs.Changes.{SuitsSeat, change_at, event_of, services_after, states_after};
+ghost use Rattle.roman_session.specs.Rules.{Joins, IsNewcomer, join_of};
 ghost use Rattle.roman_session.specs.Answering.{DoneOn};
 
 use super::{Session, number_of};
-use crate::events::Joining;
+use crate::events::{JoinWords, Joining, ServiceChange};
 use crate::phase::Phase;
 use roman_io::{Failed, Sink, Steps};
+use roman_relation::Relation;
 use roman_repair::{JoinError, Tally, die, freeze, join, thaw};
 use roman_text::{Page, Reply};
 use std::sync::ledger::Ledger;
@@ -24,66 +29,58 @@ fn kept(tally: Tally) -> Reply
     }
 }
 
+/// Changes the service at place `k` in a relation and in the states of the services.
+fn change_service<L: Ledger>(
+    relation: &mut Relation,
+    states: &mut Vec<u8>,
+    change: ServiceChange,
+    k: u8,
+    steps: &mut Steps<L>,
+) -> Tally
+    requires relation { IsRelation relation.old.joint relation.old.order }
+    requires seat { k < length relation.old.joint.seats }
+    requires state { k < length states.old.items }
+    requires suits { SuitsSeat change (slice_get (system_of relation.old.joint).seats k) }
+    ensures joint { relation.new.joint
+        ≡ record relation.old.joint { seats = services_after change relation.old.joint.seats k } }
+    ensures repaired { (seat : Seat) → slice_get (system_of relation.old.joint).seats k ≡ Some seat →
+        IsRepaired (change_at change k seat) relation.old.joint relation.old.order
+        relation.new.joint relation.new.order result }
+    ensures states { states.new.items ≡ states_after change states.old.items k }
+    ensures room { vec_capacity states.new ≡ vec_capacity states.old }
+{
+    match change {
+        ServiceChange::Freeze => freeze(relation, k, steps),
+        ServiceChange::Thaw => thaw(relation, k, steps),
+        ServiceChange::Die => {
+            let _state = states.remove(k as usize);
+            die(relation, k, steps)
+        }
+    }
+}
+
 #[tactic(auto, using(crate::proofs::AnswerLemmas::done))]
 impl Session {
-    /// Answers `freeze S`, and pushes the reply on a page. A refusal changes nothing.
-    pub(super) fn answer_freeze<O: Sink, L: Ledger>(
+    /// Answers `freeze S`, `thaw S` or `die S`, and pushes the reply on a page. A refusal changes
+    /// nothing.
+    pub(super) fn answer_change<O: Sink, L: Ledger>(
         &mut self,
+        change: ServiceChange,
         service: &[u8],
         page: &mut Page,
         out: &mut O,
         steps: &mut Steps<L>,
     ) -> Result<(), Failed>
-        ensures step { DoneOn self.old (freeze service.now) self.new (O.written out.old) (O.written out.new) page.old page.new result }
+        ensures step { DoneOn self.old (event_of change service.now) self.new (O.written out.old) (O.written out.new)
+            page.old page.new result }
         ensures cause { HasCause (O.faults out.old) (O.faults out.new) result }
     {
-        let k = match self.check_freeze(service) {
+        let k = match self.check_change(change, service) {
             Ok(k) => k,
             Err(refusal) => return page.push_reply(&refusal, out),
         };
-        let tally = freeze(&mut self.relation, k, steps);
+        let tally = change_service(&mut self.relation, &mut self.states, change, k, steps);
         self.relation.joint.known(); // the system is well formed
-        page.push_reply(&kept(tally), out)
-    }
-
-    /// Answers `thaw S`, and pushes the reply on a page. A refusal changes nothing.
-    pub(super) fn answer_thaw<O: Sink, L: Ledger>(
-        &mut self,
-        service: &[u8],
-        page: &mut Page,
-        out: &mut O,
-        steps: &mut Steps<L>,
-    ) -> Result<(), Failed>
-        ensures step { DoneOn self.old (thaw service.now) self.new (O.written out.old) (O.written out.new) page.old page.new result }
-        ensures cause { HasCause (O.faults out.old) (O.faults out.new) result }
-    {
-        let k = match self.check_thaw(service) {
-            Ok(k) => k,
-            Err(refusal) => return page.push_reply(&refusal, out),
-        };
-        let tally = thaw(&mut self.relation, k, steps);
-        self.relation.joint.known(); // the system is well formed
-        page.push_reply(&kept(tally), out)
-    }
-
-    /// Answers `die S`, and pushes the reply on a page. A refusal changes nothing.
-    pub(super) fn answer_die<O: Sink, L: Ledger>(
-        &mut self,
-        service: &[u8],
-        page: &mut Page,
-        out: &mut O,
-        steps: &mut Steps<L>,
-    ) -> Result<(), Failed>
-        ensures step { DoneOn self.old (die service.now) self.new (O.written out.old) (O.written out.new) page.old page.new result }
-        ensures cause { HasCause (O.faults out.old) (O.faults out.new) result }
-    {
-        let k = match self.check_die(service) {
-            Ok(k) => k,
-            Err(refusal) => return page.push_reply(&refusal, out),
-        };
-        let tally = die(&mut self.relation, k, steps);
-        self.relation.joint.known(); // the system is well formed
-        let _state = self.states.remove(k as usize);
         self.number = number_of(&self.relation.joint, self.target, self.env, &self.states);
         page.push_reply(&kept(tally), out)
     }
@@ -92,18 +89,16 @@ impl Session {
     /// changes nothing.
     pub(super) fn answer_join<O: Sink, L: Ledger>(
         &mut self,
-        service: &[u8],
-        behaviour: &[u8],
-        state: &[u8],
-        loose: bool,
+        words: JoinWords<'_>,
         page: &mut Page,
         out: &mut O,
         steps: &mut Steps<L>,
     ) -> Result<(), Failed>
-        ensures step { DoneOn self.old (join service.now behaviour.now state.now loose) self.new (O.written out.old) (O.written out.new) page.old page.new result }
+        ensures step { DoneOn self.old (join_of words.entry) self.new (O.written out.old) (O.written out.new)
+            page.old page.new result }
         ensures cause { HasCause (O.faults out.old) (O.faults out.new) result }
     {
-        let joining = match self.check_join(service, behaviour, state, loose) {
+        let joining = match self.check_join(words) {
             Ok(joining) => joining,
             Err(refusal) => return page.push_reply(&refusal, out),
         };
@@ -115,7 +110,7 @@ impl Session {
     fn join_seat<L: Ledger>(&mut self, joining: Joining, steps: &mut Steps<L>) -> Reply
         requires idle { self.old.phase ≡ Phase.Idle }
         requires can { IsNewcomer self.old.parts joining }
-        ensures { AddsService self.old joining (reply_text result) self.new }
+        ensures { Joins self.old joining (reply_text result) self.new }
     {
         match join(&mut self.relation, joining.seat, steps) {
             Ok(tally) => {

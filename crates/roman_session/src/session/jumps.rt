@@ -18,7 +18,8 @@ impl Session {
         page: &mut Page,
         out: &mut O,
     ) -> Result<(), Failed>
-        ensures step { DoneOn self.old (jump service.now state.now) self.new (O.written out.old) (O.written out.new) page.old page.new result }
+        ensures step { DoneOn self.old (jump service.now state.now) self.new (O.written out.old) (O.written out.new)
+            page.old page.new result }
         ensures cause { HasCause (O.faults out.old) (O.faults out.new) result }
     {
         let Jump { seat, state } = match self.check_jump(service, state) {
@@ -36,7 +37,8 @@ impl Session {
         page: &mut Page,
         out: &mut O,
     ) -> Result<(), Failed>
-        ensures step { DoneOn self.old (jump_env env.now) self.new (O.written out.old) (O.written out.new) page.old page.new result }
+        ensures step { DoneOn self.old (jump_env env.now) self.new (O.written out.old) (O.written out.new)
+            page.old page.new result }
         ensures cause { HasCause (O.faults out.old) (O.faults out.new) result }
     {
         let env = match self.check_jump_env(env) {

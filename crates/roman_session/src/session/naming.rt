@@ -1,15 +1,18 @@
 //! Looks up names.
 ghost use Rattle.std.specs.Prelude.{◌<◌, ◌≤◌, map, length, IfOk, IfSome, slice_get};
 ghost use Rattle.roman_model.specs.Explanation.{seat_names};
-ghost use Rattle.roman_joint.specs.Names.{seat_name, names_in};
+ghost use Rattle.roman_joint.specs.Names.{beh_name, seat_name, names_in, states_of_behaviour};
+ghost use Rattle.roman_joint.specs.NamedSys.{beh_at};
 ghost use Rattle.roman_session.specs.Situations.{present_system};
 ghost use Rattle.roman_session.specs.Rules.{FindsPlace};
 
 use super::Session;
+use roman_library::place_of_behaviour;
 use roman_read::NameTable;
 use roman_text::Reply;
 
 /// Returns the number of a name in the table, or `ErrorName` if the table lacks it.
+#[tactic(auto, using(crate::proofs::NameLemmas::place_there))]
 pub(super) fn place(names: &NameTable, name: &[u8]) -> Result<u8, Reply>
     requires { length names.now ≤ 64 }
     ensures finds { FindsPlace names.now name.now result }
@@ -44,12 +47,35 @@ impl Session {
         Err(Reply::ErrorName)
     }
 
+    /// Returns the place of the behaviour with this name in the catalogue, or `ErrorName` if there is
+    /// none.
+    pub(super) fn behaviour_place(&self, name: &[u8]) -> Result<u8, Reply>
+        ensures finds { FindsPlace (map beh_name self.now.parts.catalogue) name.now result }
+        ensures within { IfOk result (λ i. i < length self.now.parts.catalogue) }
+    {
+        match place_of_behaviour(self.relation.joint.catalogue(), name) {
+            Some(i) => Ok(i as u8),
+            None => Err(Reply::ErrorName),
+        }
+    }
+
+    /// Returns the number of the state with this name of the behaviour at place `i` of the catalogue,
+    /// or `ErrorName` if there is none.
+    pub(super) fn behaviour_state(&self, i: u8, name: &[u8]) -> Result<u8, Reply>
+        requires { i < length self.now.parts.catalogue }
+        ensures finds { FindsPlace (states_of_behaviour self.now.parts.catalogue i) name.now result }
+        ensures within { IfOk result (λ b. b < (beh_at self.now.parts.catalogue i).states) }
+    {
+        place(self.joint().catalogue()[i as usize].states(), name)
+    }
+
     /// Returns the number of the state with this name of the service at place `k`, or `ErrorName`
     /// if there is none.
     pub(super) fn state_place(&self, k: u8, name: &[u8]) -> Result<u8, Reply>
         requires { k < length self.now.parts.seats }
         ensures finds { FindsPlace (seat_names (names_in self.now.parts) k).states name.now result }
-        ensures within { IfOk result (λ b. IfSome (slice_get (present_system self.now).seats k) (λ seat. b < seat.beh.states)) }
+        ensures within { IfOk result (λ b. IfSome (slice_get (present_system self.now).seats k)
+            (λ seat. b < seat.beh.states)) }
     {
         self.known(); // behaviours are over the environment
         place(self.joint().behaviour(k).states(), name)

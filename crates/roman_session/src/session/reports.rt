@@ -15,7 +15,8 @@ use roman_text::{Page, ReportLine};
 
 /// Pushes report lines.
 fn push_lines<O: Sink>(lines: &[ReportLine], page: &mut Page, out: &mut O) -> Result<(), Failed>
-    ensures gathers { Gathers (O.written out.old) (O.written out.new) page.new (page.old ++ lines_text lines.now) result }
+    ensures gathers { Gathers (O.written out.old) (O.written out.new) page.new
+        (page.old ++ lines_text lines.now) result }
     ensures cause { HasCause (O.faults out.old) (O.faults out.new) result }
 {
     for line in lines {
@@ -29,7 +30,8 @@ impl Session {
     /// present states, and the services that can be offered for each action. Fails only when the
     /// sink's count of faults rose. A prefix of the report was then written.
     pub fn report<O: Sink>(&self, out: &mut O) -> Result<(), Failed>
-        ensures report { Puts (O.written out.old) (O.written out.new) (report_text self.now.parts self.now.here) result }
+        ensures report { Puts (O.written out.old) (O.written out.new)
+            (report_text self.now.parts self.now.here) result }
         ensures cause { HasCause (O.faults out.old) (O.faults out.new) result }
     {
         let mut page = Page::new();
@@ -46,7 +48,8 @@ impl Session {
         out: &mut O,
     ) -> Result<(), Failed>
         requires { self.now.phase ≡ Phase.Offered a }
-        ensures gathers { Gathers (O.written out.old) (O.written out.new) page.new (page.old ++ offer_text self.now a) result }
+        ensures gathers { Gathers (O.written out.old) (O.written out.new) page.new
+            (page.old ++ offer_text self.now a) result }
         ensures cause { HasCause (O.faults out.old) (O.faults out.new) result }
     {
         self.known(); // an open request can be served
@@ -62,7 +65,8 @@ impl Session {
         page: &mut Page,
         out: &mut O,
     ) -> Result<(), Failed>
-        ensures gathers { Gathers (O.written out.old) (O.written out.new) page.new (page.old ++ served_line self.now.parts mask) result }
+        ensures gathers { Gathers (O.written out.old) (O.written out.new) page.new
+            (page.old ++ served_line self.now.parts mask) result }
         ensures cause { HasCause (O.faults out.old) (O.faults out.new) result }
     {
         for k in 0..self.joint().seats() {
@@ -76,7 +80,8 @@ impl Session {
 
     /// Pushes all lines of the report.
     pub(super) fn push_report<O: Sink>(&self, page: &mut Page, out: &mut O) -> Result<(), Failed>
-        ensures gathers { Gathers (O.written out.old) (O.written out.new) page.new (page.old ++ report_text self.now.parts self.now.here) result }
+        ensures gathers { Gathers (O.written out.old) (O.written out.new) page.new
+            (page.old ++ report_text self.now.parts self.now.here) result }
         ensures cause { HasCause (O.faults out.old) (O.faults out.new) result }
     {
         push_lines(&self.head_lines(), page, out)?;
@@ -103,7 +108,8 @@ impl Session {
     /// Returns the report line of the service at place `k`.
     fn service_line(&self, k: u8) -> ReportLine
         requires { k < length self.now.parts.seats }
-        ensures { services_from self.now.parts self.now.here k ≡ result ∷ services_from self.now.parts self.now.here (k + 1) }
+        ensures { services_from self.now.parts self.now.here k
+            ≡ result ∷ services_from self.now.parts self.now.here (k + 1) }
     {
         self.known(); // behaviours are over the environment
         let seat = *self.joint().seat(k);
@@ -132,7 +138,8 @@ impl Session {
     /// Pushes a line for each action that the target allows, if the current pair is related, and the
     /// end of the report.
     fn push_offers<O: Sink>(&self, page: &mut Page, out: &mut O) -> Result<(), Failed>
-        ensures gathers { Gathers (O.written out.old) (O.written out.new) page.new (page.old ++ lines_text (offers_and_end self.now.parts self.now.here)) result }
+        ensures gathers { Gathers (O.written out.old) (O.written out.new) page.new
+            (page.old ++ lines_text (offers_and_end self.now.parts self.now.here)) result }
         ensures cause { HasCause (O.faults out.old) (O.faults out.new) result }
     {
         if !self.composes() {
@@ -151,7 +158,8 @@ impl Session {
     /// Pushes the line of the action `a`, with the services that are offered for it.
     fn push_offer<O: Sink>(&self, a: u8, page: &mut Page, out: &mut O) -> Result<(), Failed>
         requires { IsOpen self.now a }
-        ensures gathers { Gathers (O.written out.old) (O.written out.new) page.new (page.old ++ lines_text (offer_line self.now.parts self.now.here a)) result }
+        ensures gathers { Gathers (O.written out.old) (O.written out.new) page.new
+            (page.old ++ lines_text (offer_line self.now.parts self.now.here a)) result }
         ensures cause { HasCause (O.faults out.old) (O.faults out.new) result }
     {
         self.known(); // allowed actions are actions of the system

@@ -1,16 +1,16 @@
 //! Requests, delegations and their outcomes.
 ghost use Rattle.roman_io.specs.Faults.{HasCause};
-ghost use Rattle.roman_text.specs.Shapes.{ask, hand, saw, abort};
+ghost use Rattle.roman_text.specs.Shapes.{request, delegate, observe, abort};
 ghost use Rattle.roman_session.specs.Answering.{DoneOn};
 
 use super::Session;
-use crate::events::Handing;
+use crate::events::Delegation;
 use crate::phase::Phase;
 use roman_generator::next_target;
 use roman_io::{Failed, Sink};
 use roman_text::{Page, Reply};
 
-#[tactic(auto, using(crate::proofs::AnswerLemmas::done))]
+#[tactic(auto, using(crate::proofs::AnswerLemmas::done, crate::proofs::SituationLemmas::offered_within))]
 impl Session {
     /// Answers `do A`, and pushes the reply on a page. A refusal changes nothing.
     pub(super) fn answer_request<O: Sink>(
@@ -19,10 +19,11 @@ impl Session {
         page: &mut Page,
         out: &mut O,
     ) -> Result<(), Failed>
-        ensures step { DoneOn self.old (ask action.now) self.new (O.written out.old) (O.written out.new) page.old page.new result }
+        ensures step { DoneOn self.old (request action.now) self.new (O.written out.old) (O.written out.new)
+            page.old page.new result }
         ensures cause { HasCause (O.faults out.old) (O.faults out.new) result }
     {
-        let a = match self.check_ask(action) {
+        let a = match self.check_request(action) {
             Ok(a) => a,
             Err(refusal) => return page.push_reply(&refusal, out),
         };
@@ -32,17 +33,18 @@ impl Session {
     }
 
     /// Answers `use S`, and pushes the reply on a page. A refusal changes nothing.
-    pub(super) fn answer_hand<O: Sink>(
+    pub(super) fn answer_delegate<O: Sink>(
         &mut self,
         service: &[u8],
         page: &mut Page,
         out: &mut O,
     ) -> Result<(), Failed>
-        ensures step { DoneOn self.old (hand service.now) self.new (O.written out.old) (O.written out.new) page.old page.new result }
+        ensures step { DoneOn self.old (delegate service.now) self.new (O.written out.old) (O.written out.new)
+            page.old page.new result }
         ensures cause { HasCause (O.faults out.old) (O.faults out.new) result }
     {
-        let Handing { action, seat } = match self.check_hand(service) {
-            Ok(handing) => handing,
+        let Delegation { action, seat } = match self.check_delegate(service) {
+            Ok(delegation) => delegation,
             Err(refusal) => return page.push_reply(&refusal, out),
         };
         self.known(); // the situation is well formed
@@ -68,26 +70,27 @@ impl Session {
     }
 
     /// Answers `saw B E`, and pushes the reply on a page. A refusal changes nothing.
-    pub(super) fn answer_sight<O: Sink>(
+    pub(super) fn answer_observe<O: Sink>(
         &mut self,
         state: &[u8],
         env: &[u8],
         page: &mut Page,
         out: &mut O,
     ) -> Result<(), Failed>
-        ensures step { DoneOn self.old (saw state.now env.now) self.new (O.written out.old) (O.written out.new) page.old page.new result }
+        ensures step { DoneOn self.old (observe state.now env.now) self.new (O.written out.old) (O.written out.new)
+            page.old page.new result }
         ensures cause { HasCause (O.faults out.old) (O.faults out.new) result }
     {
-        let sight = match self.check_saw(state, env) {
-            Ok(sight) => sight,
+        let observation = match self.check_observe(state, env) {
+            Ok(observation) => observation,
             Err(refusal) => return page.push_reply(&refusal, out),
         };
         self.known(); // the situation is well formed
         let joint = &self.relation.joint;
-        let Some(to) = next_target(joint, self.target, self.env, &self.states, sight) else {
+        let Some(to) = next_target(joint, self.target, self.env, &self.states, observation) else {
             return page.push_reply(&Reply::Impossible, out);
         };
-        self.move_to(to, sight.env, sight.seat, sight.state);
+        self.move_to(to, observation.env, observation.seat, observation.state);
         page.push_now(self.target_name(), self.env_name(), out)
     }
 }

@@ -1,11 +1,11 @@
 //! Pushes replies on a page.
 ghost use Rattle.std.specs.Prelude.{◌≡◌, ◌+◌, ◌≤◌, ◌++◌, length};
-ghost use Rattle.roman_io.specs.Faults.{HasCause};
+ghost use Rattle.roman_io.specs.SinkCalls.{FailsWith};
 ghost use Rattle.roman_model.specs.declared.limits.TheConstants.{PIECE_BYTES};
 ghost use Rattle.roman_text.specs.declared.piece.TheConstants.{LONGEST};
-ghost use Rattle.roman_text.specs.Pages.{Gathers};
 ghost use Rattle.roman_text.specs.Replies.{reply_text};
 ghost use Rattle.roman_text.specs.declared.replies.Reply.TheVariants as reply;
+ghost use Rattle.roman_text.specs.Pages.{Pushes};
 
 use super::Page;
 use crate::replies::Reply;
@@ -17,8 +17,8 @@ impl Page {
     /// Appends a reply, as [`Page::push`] appends bytes. Writes the held bytes first if fewer than
     /// 128 bytes of the page are free.
     pub fn push_reply<O: Sink>(&mut self, reply: &Reply, out: &mut O) -> Result<(), Failed>
-        ensures gathers { Gathers (O.written out.old) (O.written out.new) self.new (self.old ++ reply_text reply.now) result }
-        ensures cause { HasCause (O.faults out.old) (O.faults out.new) result }
+        ensures gathers { Pushes O.Sink out.old out.new self.old self.new (reply_text reply.now) result }
+        ensures cause { FailsWith O.Sink out.old out.new result }
     {
         self.make_room(out)?;
         self.add_reply(reply);
@@ -28,8 +28,9 @@ impl Page {
     /// Appends the reply that names the service to which a request is delegated, as
     /// [`Page::push_reply`] appends replies.
     pub fn push_using<O: Sink>(&mut self, service: &Name, out: &mut O) -> Result<(), Failed>
-        ensures gathers { Gathers (O.written out.old) (O.written out.new) self.new (self.old ++ reply_text (reply.Using service.now)) result }
-        ensures cause { HasCause (O.faults out.old) (O.faults out.new) result }
+        ensures gathers { Pushes O.Sink out.old out.new self.old self.new
+            (reply_text (reply.Using service.now)) result }
+        ensures cause { FailsWith O.Sink out.old out.new result }
     {
         self.make_room(out)?;
         self.add_using(service);
@@ -44,8 +45,9 @@ impl Page {
         env: &Name,
         out: &mut O,
     ) -> Result<(), Failed>
-        ensures gathers { Gathers (O.written out.old) (O.written out.new) self.new (self.old ++ reply_text (reply.Now target.now env.now)) result }
-        ensures cause { HasCause (O.faults out.old) (O.faults out.new) result }
+        ensures gathers { Pushes O.Sink out.old out.new self.old self.new
+            (reply_text (reply.Now target.now env.now)) result }
+        ensures cause { FailsWith O.Sink out.old out.new result }
     {
         self.make_room(out)?;
         self.add_now(target, env);

@@ -1,5 +1,4 @@
-use Rattle.roman_c.proofs.Common.{arith, length-map, mapped_at}
-use Rattle.roman_c.proofs.PlaceLemmas.{past_found, past_next, past_none}
+use Rattle.roman_c.proofs.Common.{past_found, past_next, past_none, arith, length-map, mapped_at}
 use Rattle.roman_c.proofs.names.find_service.Goals as goal
 
 pub returns-then-eq : goal.returns-then-eq

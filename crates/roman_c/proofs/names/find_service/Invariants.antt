@@ -1,5 +1,4 @@
-use Rattle.roman_c.proofs.Common.{map, seat_name}
-use Rattle.roman_c.proofs.PlaceLemmas.{IsPast}
+use Rattle.roman_c.proofs.Common.{IsPast, map, seat_name}
 use Rattle.roman_c.proofs.names.find_service.Given as goal
 
 -- the services so far have other names

@@ -22,13 +22,13 @@ loop-i-init g c =
 pub returns-in_err-push_entry-clause-text : goal.returns-in_err-push_entry-clause-text
 returns-in_err-push_entry-clause-text g c =
     let p = err_from_is_err_and c.from_residual-in_err-push_entry.result c.from_residual-in_err-push_entry.ensures.1 in
-    rw p.1 (fill_stops line_of _ _ _ _ c.walk-pair.ensures.entry _ _ _ _ _ refl c.loop-i.invariant.filling _ c.in_err-push_entry.ensures.gathers.0)
+    rw p.1 (fill_stops line_of _ _ _ _ c.read_on-pair.ensures.entry _ _ _ _ _ refl c.loop-i.invariant.filling _ c.in_err-push_entry.ensures.gathers.0)
 
 pub loop-i-preserved : goal.loop-i-preserved
 loop-i-preserved g c = record {
-  filling = fill_next line_of _ _ _ _ c.walk-pair.ensures.entry _ _ _ _ _ refl c.loop-i.invariant.filling _ _ c.in_ok-push_entry.ensures.gathers;
+  filling = fill_next line_of _ _ _ _ c.read_on-pair.ensures.entry _ _ _ _ _ refl c.loop-i.invariant.filling _ _ c.in_ok-push_entry.ensures.gathers;
   template = c.in_ok-push_entry.ensures.template;
-  ahead = c.walk-pair.ensures.ahead;
+  ahead = c.read_on-pair.ensures.ahead;
   cause = c.in_ok-push_entry.ensures.cause.stays ∙ c.loop-i.invariant.cause;
 }
 

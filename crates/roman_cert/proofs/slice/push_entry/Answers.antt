@@ -4,16 +4,16 @@ use Rattle.roman_cert.proofs.SliceTexts.{entry_pair, entry_reason}
 use Rattle.roman_cert.proofs.slice.push_entry.Goals as goal
 
 pub push_lost-requires-clause-pair : goal.push_lost-requires-clause-pair
-push_lost-requires-clause-pair g c = entry_pair c.args.joint.now c.args.order.now c.args.i (as_entry (c.args.p, c.args.reason)) c.requires.shaped c.known-2.ensures.in_range c.requires.entry
+push_lost-requires-clause-pair g c = entry_pair c.args.joint.now c.args.order.now c.args.entry.place (as_entry (c.args.entry.pair, c.args.entry.reason)) c.requires.shaped c.known-2.ensures.in_range c.requires.entry
 
 pub push_lost-requires-clause-reason : goal.push_lost-requires-clause-reason
-push_lost-requires-clause-reason g c = entry_reason c.args.joint.now c.args.order.now.list c.args.i (as_entry (c.args.p, c.args.reason)) c.known.ensures c.requires.valid c.requires.entry
+push_lost-requires-clause-reason g c = entry_reason c.args.joint.now c.args.order.now.list c.args.entry.place (as_entry (c.args.entry.pair, c.args.entry.reason)) c.known.ensures c.requires.valid c.requires.entry
 
 pub returns-in_err-push_lost-clause-gathers : goal.returns-in_err-push_lost-clause-gathers
 unfolding entry_text
 returns-in_err-push_lost-clause-gathers g c =
     let n = c.args.joint.now in
-    let x = as_entry (c.args.p, c.args.reason) in
+    let x = as_entry (c.args.entry.pair, c.args.entry.reason) in
     let p = err_from_is_err_and c.from_residual.result c.from_residual.ensures.1 in
     rw p.1 (gathers_failed_first _ _ c.args.page.now _ (lost_text n x) (answers_text n c.args.order.now.list x) c.in_err-push_lost.ensures.gathers.0 c.in_err-push_lost.ensures.gathers.1)
 
@@ -22,13 +22,13 @@ unfolding entry_text
 returns-in-Final-clause-gathers g c =
     let n = c.args.joint.now in
     let L = c.args.order.now.list in
-    let none : answers_text n L (as_entry (c.args.p, c.args.reason)) ≡ [] = ap (λ r. answers_text n L (as_entry (c.args.p, r))) c.in-Final.is ∙ no_answers n L c.args.p in
-    rw (none, append-nil (lost_text n (as_entry (c.args.p, c.args.reason)))) c.in_ok-push_lost.ensures.gathers
+    let none : answers_text n L (as_entry (c.args.entry.pair, c.args.entry.reason)) ≡ [] = ap (λ r. answers_text n L (as_entry (c.args.entry.pair, r))) c.in-Final.is ∙ no_answers n L c.args.entry.pair in
+    rw (none, append-nil (lost_text n (as_entry (c.args.entry.pair, c.args.entry.reason)))) c.in_ok-push_lost.ensures.gathers
 
 pub returns-in-Act-clause-gathers : goal.returns-in-Act-clause-gathers
 unfolding entry_text
 returns-in-Act-clause-gathers g c =
     let n = c.args.joint.now in
-    let answers : Reason → List ℕ = λ r. answers_text n c.args.order.now.list (as_entry (c.args.p, r)) in
-    let lines = lost_text n (as_entry (c.args.p, c.args.reason)) in
+    let answers : Reason → List ℕ = λ r. answers_text n c.args.order.now.list (as_entry (c.args.entry.pair, r)) in
+    let lines = lost_text n (as_entry (c.args.entry.pair, c.args.entry.reason)) in
     rw (ap answers c.in-Act.is) (Gathers-second _ _ _ c.args.page.now _ _ lines (answers (Act c.in-Act.a)) _ c.in_ok-push_lost.ensures.gathers c.push_answers.ensures.gathers)

@@ -9,21 +9,21 @@ loop-i-init g c = record { filling = fill_whole _ _ _ _ c.new-page.ensures.empty
 
 pub loop-i-preserved-then-not-marked : goal.loop-i-preserved-then-not-marked
 loop-i-preserved-then-not-marked g c =
-    let none = unmarked_said c.args.joint.now c.args.order.now (as_entry c.walk-p.result) (sym c.marked.ensures ∙ c.if-not-marked.true) in
-    record { filling = fill_skips _ _ _ _ _ c.walk-p.ensures.entry _ _ _ _ none c.loop-i.invariant.filling; ahead = c.walk-p.ensures.ahead; cause = c.loop-i.invariant.cause }
+    let none = unmarked_said c.args.joint.now c.args.order.now (as_entry c.read_on-p.result) (sym c.marked.ensures ∙ c.if-not-marked.true) in
+    record { filling = fill_skips _ _ _ _ _ c.read_on-p.ensures.entry _ _ _ _ none c.loop-i.invariant.filling; ahead = c.read_on-p.ensures.ahead; cause = c.loop-i.invariant.cause }
 
 pub returns-in_err-push_entry-clause-text : goal.returns-in_err-push_entry-clause-text
 returns-in_err-push_entry-clause-text g c =
-    let said = marked_said c.args.joint.now c.args.order.now (as_entry c.walk-p.result) (sym c.marked.ensures ∙ c.if-not-marked.false) in
+    let said = marked_said c.args.joint.now c.args.order.now (as_entry c.read_on-p.result) (sym c.marked.ensures ∙ c.if-not-marked.false) in
     let p = err_from_is_err_and c.from_residual.result c.from_residual.ensures.1 in
-    rw p.1 (fill_stops _ _ _ _ _ c.walk-p.ensures.entry _ _ _ _ _ said c.loop-i.invariant.filling _ c.in_err-push_entry.ensures.gathers.0)
+    rw p.1 (fill_stops _ _ _ _ _ c.read_on-p.ensures.entry _ _ _ _ _ said c.loop-i.invariant.filling _ c.in_err-push_entry.ensures.gathers.0)
 
 pub loop-i-preserved : goal.loop-i-preserved
 loop-i-preserved g c =
-    let said = marked_said c.args.joint.now c.args.order.now (as_entry c.walk-p.result) (sym c.marked.ensures ∙ c.if-not-marked.false) in
+    let said = marked_said c.args.joint.now c.args.order.now (as_entry c.read_on-p.result) (sym c.marked.ensures ∙ c.if-not-marked.false) in
     record {
-      filling = fill_next _ _ _ _ _ c.walk-p.ensures.entry _ _ _ _ _ said c.loop-i.invariant.filling _ _ c.in_ok-push_entry.ensures.gathers;
-      ahead = c.walk-p.ensures.ahead;
+      filling = fill_next _ _ _ _ _ c.read_on-p.ensures.entry _ _ _ _ _ said c.loop-i.invariant.filling _ _ c.in_ok-push_entry.ensures.gathers;
+      ahead = c.read_on-p.ensures.ahead;
       cause = c.in_ok-push_entry.ensures.cause.stays ∙ c.loop-i.invariant.cause;
     }
 

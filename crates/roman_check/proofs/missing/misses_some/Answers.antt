@@ -1,10 +1,10 @@
-use Rattle.roman_check.proofs.Common.{◌+◌, ◌*◌, ◌∙◌, length, arith, subst, ap, bit_or, is_listed, HasLanes, could_be_by}
-use Rattle.roman_check.proofs.ReasonLemmas.{all_asked, copied, final_lanes, more_lanes, none_left, row_ends}
+use Rattle.roman_check.proofs.Common.{◌+◌, ◌*◌, ◌∙◌, length, arith, subst, ap, bit_or, is_listed, HasLanes, could_be_by, row_fits}
+use Rattle.roman_check.proofs.ReasonLemmas.{all_probed, copied, final_lanes, more_lanes, none_left}
 use Rattle.roman_check.proofs.missing.misses_some.Goals as goal
 
 pub first_row-row-requires : goal.first_row-row-requires
 first_row-row-requires g c =
-    omega (arith, row_ends (c.args.y * g.J.Rules.band c.args.joint.now) (length c.args.words.now) (g.J.Rules.lanes c.args.joint.now) (omega (arith, c.requires.band, c.known.ensures.band.0)), c.requires.room, c.known.ensures.lanes.0)
+    omega (arith, row_fits (c.args.y * g.J.Rules.band c.args.joint.now) (g.J.Rules.lanes c.args.joint.now) (length c.args.words.now) (g.J.Rules.lanes c.args.joint.now) (omega (arith, c.requires.band, c.known.ensures.band.0)) (omega arith), c.requires.room, c.known.ensures.lanes.0)
 
 pub returns-then-are_clear-clause-none : goal.returns-then-are_clear-clause-none
 returns-then-are_clear-clause-none g c clear L rows i h =
@@ -35,4 +35,4 @@ loop-a-preserved g c = record {
 }
 
 pub returns-clause-none : goal.returns-clause-none
-returns-clause-none g c clear L rows i h = all_asked (g.J.Rules.arena c.args.joint.now) L _ _ _ c.loop-a.a (c.loop-a.invariant.none L rows i h) (omega (arith, c.loop-a.auto.a-end, c.loop-a-test.false, c.actions-a-end.ensures))
+returns-clause-none g c clear L rows i h = all_probed (g.J.Rules.arena c.args.joint.now) L _ _ _ c.loop-a.a (c.loop-a.invariant.none L rows i h) (omega (arith, c.loop-a.auto.a-end, c.loop-a-test.false, c.actions-a-end.ensures))

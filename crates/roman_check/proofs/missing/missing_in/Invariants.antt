@@ -1,7 +1,7 @@
 use Rattle.roman_check.proofs.Common.{List, ℕ, not, Entry, is_listed, AreRows, HasLanes, could_be_by}
 use Rattle.roman_check.proofs.missing.missing_in.Given as goal
 
--- clause 2 and the actions so far are asked about
+-- clause 2 and the actions so far are probed for
 abbrev pub invariant-loop-a : goal.invariant-loop-a
 invariant-loop-a g l =
     let A = g.J.Rules.arena l.joint in

@@ -1,5 +1,4 @@
-use Rattle.roman_cost.proofs.Common.{get_or, subst, IsIn}
-use Rattle.roman_cost.proofs.Rows.{in_at}
+use Rattle.roman_cost.proofs.Common.{get_or, subst, IsIn, in_at}
 use Rattle.roman_cost.proofs.filling.first_terms.Goals as goal
 
 pub push_pair-requires-clause-pair : goal.push_pair-requires-clause-pair

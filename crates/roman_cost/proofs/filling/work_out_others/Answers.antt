@@ -1,5 +1,5 @@
-use Rattle.roman_cost.proofs.Common.{ℕ, suc, ◌++◌, List, map, get_or, refl, ap, ◌∙◌, take_all, least_at, system_of, seat_costs}
-use Rattle.roman_cost.proofs.Rows.{in_at, row_more}
+use Rattle.roman_cost.proofs.Common.{ℕ, suc, ◌++◌, List, map, get_or, refl, ap, ◌∙◌, take_all, least_at, system_of, seat_costs, in_at}
+use Rattle.roman_cost.proofs.Rows.{row_more}
 use Rattle.roman_cost.proofs.TermLemmas.{one_worked}
 use Rattle.roman_cost.proofs.filling.work_out_others.Goals as goal
 

@@ -1,4 +1,4 @@
-use Rattle.roman_cost.proofs.Common.{◌≡◌, ◌+◌, ◌<◌, ◌∙◌, arith, sizes_of, pair_at, allowed_in_range, system_of}
+use Rattle.roman_cost.proofs.Common.{◌<◌, arith, sizes_of, pair_at, allowed_in_range, system_of}
 use Rattle.roman_cost.proofs.OfferedSeats.{are_outcomes, offered_ranked, cost_is, through_fits}
 use Rattle.roman_cost.proofs.seats.cost_through.Goals as goal
 

@@ -1,4 +1,4 @@
-use Rattle.roman_cost.proofs.Common.{◌≡◌, ◌<◌, ℕ, Bool, ◌++◌, [], ◌∷◌, List, Vec, Global, length, filter, sym, ap, ◌∙◌, arith, append_assoc, flat_map, length-map, below, sizes_of, pair_at, offers, has, has_seat_is, system_of, seat_of, seat_costs, service_terms, Term}
+use Rattle.roman_cost.proofs.Common.{◌≡◌, ℕ, Bool, ◌++◌, [], ◌∷◌, List, Vec, Global, length, filter, sym, ap, ◌∙◌, arith, append_assoc, flat_map, length-map, below, sizes_of, pair_at, offers, has, has_seat_is, system_of, seat_of, seat_costs, service_terms, Term}
 use Rattle.roman_cost.specs.declared.terms.Term.TheVariants as term
 use Rattle.roman_cost.proofs.OfferedSeats.{told_offered, offers_among}
 use Rattle.roman_cost.proofs.Ranks.{related_below}

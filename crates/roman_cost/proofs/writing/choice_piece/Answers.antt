@@ -5,7 +5,7 @@ use Rattle.roman_cost.proofs.writing.choice_piece.Goals as goal
 pub seat-requires : goal.seat-requires
 seat-requires c =
     let n = c.args.relation.now.joint in
-    chosen_seat n (seat_costs n c.args.costs.now.listed) (c.requests.result - 1) c.args.start c.args.a c.choice-seat.result.0 c.known.ensures.system c.requires.pair c.requires.related c.requires.allowed c.choice-seat.ensures.seat
+    chosen_seat n (seat_costs n c.args.costs.now.listed) (c.requests.result - 1) c.args.start c.args.a c.choice-seat.result.0 c.known.ensures.system c.requires.known.pair c.requires.known.related c.requires.allowed c.choice-seat.ensures.seat
 
 pub returns : goal.returns
 returns c =

@@ -1,12 +1,12 @@
-use Rattle.roman_generator.proofs.Common.{arith, refl, slice_get_within, system_of}
-use Rattle.roman_generator.proofs.MoveLemmas.{ready_seat, states_long}
+use Rattle.roman_generator.proofs.Common.{arith, refl, slice_get_within, system_of, states_long}
+use Rattle.roman_generator.proofs.MoveLemmas.{ready_seat}
 use Rattle.roman_generator.proofs.moves.next_target.Goals as goal
 
-pub bounds-states-sight : goal.bounds-states-sight
-bounds-states-sight c =
+pub bounds-states-observation : goal.bounds-states-observation
+bounds-states-observation c =
     let s = system_of c.args.joint.now in
     let (seat, seated, ready) = ready_seat _ c.requires.ready in
-    let l = slice_get_within s.seats c.args.sight.seat seat seated in
+    let l = slice_get_within s.seats c.args.observation.seat seat seated in
     omega (arith, l, states_long s _ c.requires.pair)
 
 pub target_after-requires-clause-before : goal.target_after-requires-clause-before

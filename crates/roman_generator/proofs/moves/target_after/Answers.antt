@@ -5,10 +5,10 @@ use Rattle.roman_generator.proofs.moves.target_after.Goals as goal
 pub next-requires : goal.next-requires
 next-requires c =
     let (p, before) = c.requires.before in
-    let within = allowed_within (system_of c.args.joint.now) c.args.t c.args.e c.args.b c.args.sight p c.known.ensures.system before in
+    let within = allowed_within (system_of c.args.joint.now) c.args.t c.args.e c.args.b c.args.observation p c.known.ensures.system before in
     record {
       state = subst (λ (env : NamedEnv). c.args.e < env.env.states) (sym c.environment.ensures) within.1;
-      action = subst (λ (env : NamedEnv). c.args.sight.action < env.env.actions) (sym c.environment.ensures) within.2;
+      action = subst (λ (env : NamedEnv). c.args.observation.action < env.env.actions) (sym c.environment.ensures) within.2;
     }
 
 pub behaviour-behaviour-requires : goal.behaviour-behaviour-requires
@@ -18,10 +18,10 @@ pub out-requires : goal.out-requires
 out-requires c =
     let n = c.args.joint.now in
     let (p, before) = c.requires.before in
-    let within = allowed_within (system_of n) c.args.t c.args.e c.args.b c.args.sight p c.known.ensures.system before in
-    let of = behaves n c.args.sight.seat c.behaviour-behaviour.result.now c.known.ensures c.behaviour-behaviour.ensures in
+    let within = allowed_within (system_of n) c.args.t c.args.e c.args.b c.args.observation p c.known.ensures.system before in
+    let of = behaves n c.args.observation.seat c.behaviour-behaviour.result.now c.known.ensures c.behaviour-behaviour.ensures in
     record {
-      state = omega (arith, state_of_seat (system_of n) c.args.t c.args.e c.args.b c.args.sight p of.seat before of.seated, ap (λ (b : Beh). b.states) of.is);
+      state = omega (arith, state_of_seat (system_of n) c.args.t c.args.e c.args.b c.args.observation p of.seat before of.seated, ap (λ (b : Beh). b.states) of.is);
       env_state = omega (arith, within.1, of.env_states);
       action = omega (arith, within.2, of.actions);
     }
@@ -29,7 +29,7 @@ out-requires c =
 pub step-requires : goal.step-requires
 step-requires c =
     let (p, before) = c.requires.before in
-    let within = allowed_within (system_of c.args.joint.now) c.args.t c.args.e c.args.b c.args.sight p c.known.ensures.system before in
+    let within = allowed_within (system_of c.args.joint.now) c.args.t c.args.e c.args.b c.args.observation p c.known.ensures.system before in
     record {
       state = omega (arith, within.0, ap (λ (t : NamedTarget). t.beh.states) c.target.ensures);
       env_state = omega (arith, within.1, c.known.ensures.target.0, ap (λ (t : NamedTarget). t.env_states) c.target.ensures);
@@ -38,14 +38,14 @@ step-requires c =
 
 pub returns-then-not-holds-clause-none : goal.returns-then-not-holds-clause-none
 returns-then-not-holds-clause-none c =
-    let x = c.args.sight in
+    let x = c.args.observation in
     let has_env = c.holds.ensures ∙ ap (λ (xs : List ℕ). has xs x.env) (c.next.ensures.next ∙ ap (λ (env : NamedEnv). env_next env.env c.args.e x.action) c.environment.ensures) in
     λ p. env_stays (system_of c.args.joint.now) c.args.t c.args.e c.args.b x p c.known.ensures.system (sym has_env ∙ c.if-not-holds.true)
 
 pub returns-then-not-holds-2-clause-none : goal.returns-then-not-holds-2-clause-none
 returns-then-not-holds-2-clause-none c =
     let n = c.args.joint.now in
-    let x = c.args.sight in
+    let x = c.args.observation in
     let of = behaves n x.seat c.behaviour-behaviour.result.now c.known.ensures c.behaviour-behaviour.ensures in
     let has_state = c.holds-2.ensures ∙ ap (λ (xs : List ℕ). has xs x.state) (c.out.ensures.next ∙ ap (λ (beh : Beh). beh_next beh c.args.b c.args.e x.action) (sym of.is)) in
     λ p. seat_stays (system_of n) c.args.t c.args.e c.args.b x p of.seat c.known.ensures.system of.seated (sym has_state ∙ c.if-not-holds-2.true)
@@ -54,7 +54,7 @@ pub returns : goal.returns
 returns c =
     let n = c.args.joint.now in
     let s = system_of n in
-    let x = c.args.sight in
+    let x = c.args.observation in
     let of = behaves n x.seat c.behaviour-behaviour.result.now c.known.ensures c.behaviour-behaviour.ensures in
     let has_env = c.holds.ensures ∙ ap (λ (xs : List ℕ). has xs x.env) (c.next.ensures.next ∙ ap (λ (env : NamedEnv). env_next env.env c.args.e x.action) c.environment.ensures) in
     let has_state = c.holds-2.ensures ∙ ap (λ (xs : List ℕ). has xs x.state) (c.out.ensures.next ∙ ap (λ (beh : Beh). beh_next beh c.args.b c.args.e x.action) (sym of.is)) in

@@ -19,10 +19,10 @@ returns-then-seat c = record {
   left = λ y gone ok rows living.
       let n = c.args.joint.now in
       let s = system_of n in
-      let turn = c.args.turn.now in
-      let h = known n (y * band_in s) turn.row.now c.layout-rows.ensures.known ok in
-      keeps_all s (y * band_in s) (band_in s) (λ p. is_beaten (numbered s) gone p turn.action c.args.k) c.args.left.now
-      (λ i lane l m. sym (beaten_own s c.layout-rows.result.now y turn.action turn.row.now turn.to h c.layout-rows.ensures.rows c.requires.band.is_turn.1.to i c.args.k _ lane [] c.args.alive.now gone l c.requires.within c.requires.seat refl
+      let attempt = c.args.attempt.now in
+      let h = known n (y * band_in s) attempt.row.now c.layout-rows.ensures.known ok in
+      keeps_all s (y * band_in s) (band_in s) (λ p. is_beaten (numbered s) gone p attempt.action c.args.k) c.args.left.now
+      (λ i lane l m. sym (beaten_own s c.layout-rows.result.now y attempt.action attempt.row.now attempt.to h c.layout-rows.ensures.rows c.requires.band.is_attempt.1.to i c.args.k _ lane [] c.args.alive.now gone l c.requires.within c.requires.seat refl
       (grind (arith, c.service.ensures.seated)) living m));
 }
 
@@ -89,15 +89,15 @@ returns c = record {
   left = λ y gone ok rows living.
       let n = c.args.joint.now in
       let s = system_of n in
-      let turn = c.args.turn.now in
+      let attempt = c.args.attempt.now in
       let of = c.service.ensures in
       let own = own (goal.at.returns c).After-layout-rows in
-      let h = known n (y * band_in s) turn.row.now c.layout-rows.ensures.known ok in
+      let h = known n (y * band_in s) attempt.row.now c.layout-rows.ensures.known ok in
       let digit = λ (i : ℕ). i / slice_index c.layout-rows.result.now.strides c.args.k % slice_index c.layout-rows.result.now.sizes c.args.k in
       let each = λ (i lane : ℕ) (l : i < band_in s). c.loop-b.invariant.each i lane (omega (arith, l, c.requires.band.long)) (omega (arith, c.loop-b-test.false, own.state i, own.seat.size, own.seat.same, own.below i)) in
-      keeps_by s _ _ (λ p. is_beaten (numbered s) gone p turn.action c.args.k) _ _ c.requires.band.long c.loop-b.invariant.long
+      keeps_by s _ _ (λ p. is_beaten (numbered s) gone p attempt.action c.args.k) _ _ c.requires.band.long c.loop-b.invariant.long
       (λ i lane l m.
-      let next = sym (ready_next _ _ (digit i) turn.row.now.env turn.action of.seated c.if-seat.false ∙ ap (λ z. beh_next z (digit i) turn.row.now.env turn.action) (sym of.beh)) in
-      rw (beaten_own s c.layout-rows.result.now y turn.action turn.row.now turn.to h c.layout-rows.ensures.rows c.requires.band.is_turn.1.to i c.args.k (digit i) lane _ c.args.alive.now gone l c.requires.within c.requires.seat (sym (own.state i)) next living m) at (each i lane l))
+      let next = sym (ready_next _ _ (digit i) attempt.row.now.env attempt.action of.seated c.if-seat.false ∙ ap (λ z. beh_next z (digit i) attempt.row.now.env attempt.action) (sym of.beh)) in
+      rw (beaten_own s c.layout-rows.result.now y attempt.action attempt.row.now attempt.to h c.layout-rows.ensures.rows c.requires.band.is_attempt.1.to i c.args.k (digit i) lane _ c.args.alive.now gone l c.requires.within c.requires.seat (sym (own.state i)) next living m) at (each i lane l))
       (λ i lane l off. let here = each i lane l in grind arith);
 }

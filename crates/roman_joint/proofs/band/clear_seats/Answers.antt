@@ -9,7 +9,7 @@ returns-then-is_clear c =
     let before = c.loop-k.invariant in
     let none : (i : ℕ) → i < band_in s → slice_index c.loop-k.left i ≡ 0 = λ i l. c.is_clear.ensures.0 c.if-is_clear.true i (omega (arith, l, before.long, c.requires.long)) in
     let seats : c.loop-k.k ≤ length s.seats = omega (arith, c.loop-k-test.true, c.seats-k-end.ensures.count, length-map n.seats (seat_of n.catalogue)) in
-    record { long = before.long; left = λ y gone ok rows living. keeps_cut s (y * band_in s) (band_in s) _ _ (λ p. is_beaten (numbered s) gone p c.args.turn.now.action) _ _ seats none (before.left y gone ok rows living) }
+    record { long = before.long; left = λ y gone ok rows living. keeps_cut s (y * band_in s) (band_in s) _ _ (λ p. is_beaten (numbered s) gone p c.args.attempt.now.action) _ _ seats none (before.left y gone ok rows living) }
 
 pub loop-k-preserved : goal.loop-k-preserved
 loop-k-preserved c = record {
@@ -22,4 +22,4 @@ returns c =
     let n = c.args.joint.now in
     let s = system_of n in
     let end : c.loop-k.k ≡ length s.seats = omega (arith, c.loop-k-test.false, c.loop-k.auto.k-end, c.seats-k-end.ensures.count, length-map n.seats (seat_of n.catalogue)) in
-    subst (λ m. ClearsAllServed s c.args.turn.now c.args.alive.now m c.args.left.now c.loop-k.left) end c.loop-k.invariant
+    subst (λ m. ClearsAllServed s c.args.attempt.now c.args.alive.now m c.args.left.now c.loop-k.left) end c.loop-k.invariant

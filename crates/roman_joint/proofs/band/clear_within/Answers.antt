@@ -9,11 +9,11 @@ returns-then-some-eq0 c = record {
   left = λ y gone ok rows living.
       let n = c.args.joint.now in
       let s = system_of n in
-      let h = known n (y * band_in s) c.args.turn.now.row.now c.layout.ensures.known ok in
+      let h = known n (y * band_in s) c.args.attempt.now.row.now c.layout.ensures.known ok in
       let seat : c.args.k < length s.seats = omega (arith, c.requires.seat, length-map n.seats (seat_of n.catalogue)) in
       let are = rw c.if-some-eq0.true at c.lane_moves-some.ensures in
-      keeps_all s (y * band_in s) (band_in s) (λ p. is_beaten (numbered s) gone p c.args.turn.now.action c.args.k) c.args.left.now
-      (λ i lane l m. let beaten = beaten_moving s _ y _ _ _ h c.layout.ensures.rows c.requires.band.is_turn.1.to i c.args.k 0 lane _ _ gone l c.requires.within seat are living m in grind (arith, on_zero));
+      keeps_all s (y * band_in s) (band_in s) (λ p. is_beaten (numbered s) gone p c.args.attempt.now.action c.args.k) c.args.left.now
+      (λ i lane l m. let beaten = beaten_moving s _ y _ _ _ h c.layout.ensures.rows c.requires.band.is_attempt.1.to i c.args.k 0 lane _ _ gone l c.requires.within seat are living m in grind (arith, on_zero));
 }
 
 pub clear_moving-requires-clause-moves : goal.clear_moving-requires-clause-moves
@@ -25,12 +25,12 @@ returns c = record {
   left = λ y gone ok rows living.
       let n = c.args.joint.now in
       let s = system_of n in
-      let h = known n (y * band_in s) c.args.turn.now.row.now c.layout.ensures.known ok in
+      let h = known n (y * band_in s) c.args.attempt.now.row.now c.layout.ensures.known ok in
       let seat : c.args.k < length s.seats = omega (arith, c.requires.seat, length-map n.seats (seat_of n.catalogue)) in
       let are = c.lane_moves-some.ensures in
-      keeps_by s _ _ (λ p. is_beaten (numbered s) gone p c.args.turn.now.action c.args.k) _ _ c.requires.band.long c.clear_moving.ensures.long
+      keeps_by s _ _ (λ p. is_beaten (numbered s) gone p c.args.attempt.now.action c.args.k) _ _ c.requires.band.long c.clear_moving.ensures.long
       (λ i lane l m.
-      let beaten = beaten_moving s _ y _ _ _ h c.layout.ensures.rows c.requires.band.is_turn.1.to i c.args.k _ lane _ _ gone l c.requires.within seat are living m in
+      let beaten = beaten_moving s _ y _ _ _ h c.layout.ensures.rows c.requires.band.is_attempt.1.to i c.args.k _ lane _ _ gone l c.requires.within seat are living m in
       let few = moves_few _ _ _ lane _ _ are m in
       rw beaten at ((c.clear_moving.ensures.each i (omega (arith, l, c.requires.band.long))).each lane few.0 few.1))
       (λ i lane l. (c.clear_moving.ensures.each i (omega (arith, l, c.requires.band.long))).none lane);

@@ -11,7 +11,7 @@ loop-i-preserved c =
     record {
       counted = λ y gone ok rows living.
           let x = y * band_in s + i in
-          let beaten = λ (p : ℕ). is_beaten (numbered s) gone p c.args.turn.now.action c.args.k in
+          let beaten = λ (p : ℕ). is_beaten (numbered s) gone p c.args.attempt.now.action c.args.k in
           let within : i < band_in s = omega (arith, c.loop-i-test.true, c.layout-rows.ensures.rows.band) in
           let left = c.clear_seat.ensures.left y gone ok rows living in
           let word : HasLanes w x (λ p. not (beaten p)) c.less.result = record {
@@ -22,7 +22,7 @@ loop-i-preserved c =
             rest = λ lane l. c.less.ensures lane ∙ ap (λ b. b && not (is_on (slice_index c.clear_seat.new.left i) lane)) (full_off (sizes_of s) r lane c.layout-rows.ensures.rows l);
           } in
           let ones = ones_counted w x (λ p. not (beaten p)) c.less.result (lanes_few (sizes_of s).seats) c.less.type_inv word in
-          omega (arith, c.loop-i.invariant.counted y gone ok rows living, ones, sum_below_more (λ (i : ℕ). served_by (numbered s) gone w (y * band_in s + i) c.args.turn.now.action c.args.k) i);
+          omega (arith, c.loop-i.invariant.counted y gone ok rows living, ones, sum_below_more (λ (i : ℕ). served_by (numbered s) gone w (y * band_in s + i) c.args.attempt.now.action c.args.k) i);
       bound = omega (arith, c.loop-i.invariant.bound, ones_few c.less.result c.less.type_inv);
     }
 
@@ -30,7 +30,7 @@ pub returns-clause-counted : goal.returns-clause-counted
 returns-clause-counted c y gone ok rows living =
     let s = system_of c.args.joint.now in
     let end : c.loop-i.i ≡ band_in s = omega (arith, c.loop-i-test.false, c.layout-rows.ensures.rows.band) in
-    c.loop-i.invariant.counted y gone ok rows living ∙ ap (λ m. sum_by (λ (i : ℕ). served_by (numbered s) gone (lanes_in s) (y * band_in s + i) c.args.turn.now.action c.args.k) (below m)) end
+    c.loop-i.invariant.counted y gone ok rows living ∙ ap (λ m. sum_by (λ (i : ℕ). served_by (numbered s) gone (lanes_in s) (y * band_in s + i) c.args.attempt.now.action c.args.k) (below m)) end
 
 pub returns-clause-few : goal.returns-clause-few
 returns-clause-few c = omega (arith, c.loop-i.invariant.bound, c.layout-rows.ensures.rows.band_range)

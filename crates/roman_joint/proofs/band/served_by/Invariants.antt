@@ -6,7 +6,7 @@ abbrev pub invariant-loop-i : goal.invariant-loop-i
 invariant-loop-i l =
     let s = system_of l.joint in
     record {
-      counted : (y : ℕ) (gone : ℕ → Bool) → IsRow s (y * band_in s) l.turn.row.now → AreRows (lanes_in s) (λ q. not (gone q)) l.turn.words.now → AllAlive s gone l.turn.to l.alive →
-          l.count ≡ sum_by (λ i. served_by (numbered s) gone (lanes_in s) (y * band_in s + i) l.turn.action l.k) (below l.i);
+      counted : (y : ℕ) (gone : ℕ → Bool) → IsRow s (y * band_in s) l.attempt.row.now → AreRows (lanes_in s) (λ q. not (gone q)) l.attempt.words.now → AllAlive s gone l.attempt.to l.alive →
+          l.count ≡ sum_by (λ i. served_by (numbered s) gone (lanes_in s) (y * band_in s + i) l.attempt.action l.k) (below l.i);
       bound : l.count ≤ 64 * l.i;
     }

@@ -14,7 +14,7 @@ returns c = record {
       let are = c.lane_moves-some.ensures in
       record {
         each = λ lane l.
-            let beaten = moves_beaten s x _ c.args.k c.args.alive _ _ gone (known n x _ c.known.ensures ok) c.requires.turn.1.to c.requires.within seat living _ _ are lane l in
+            let beaten = moves_beaten s x _ c.args.k c.args.alive _ _ gone (known n x _ c.known.ensures ok) c.requires.attempt.1.to c.requires.within seat living _ _ are lane l in
             let few = moves_few _ _ _ lane _ _ are l in
             grind (arith, (c.moves_alive.ensures.alive lane few.0 few.1));
         rest = λ lane l. c.moves_alive.ensures.within lane (are.rest lane l);

@@ -1,5 +1,4 @@
-use Rattle.roman_joint.proofs.Common.{◌≡◌, ℕ, ◌+◌, ◌-◌, ◌<◌, Bool, true, false, not, ◌&&◌, get_or, bit_and, refl, sym, ap, ◌∙◌, arith, rules, length-zip2, get_or-zip2, is_on, Move, on_and}
-use Rattle.roman_joint.proofs.Finds.{in_at}
+use Rattle.roman_joint.proofs.Common.{◌≡◌, ℕ, ◌+◌, ◌-◌, ◌<◌, Bool, true, false, not, ◌&&◌, get_or, bit_and, refl, sym, ap, ◌∙◌, arith, rules, length-zip2, get_or-zip2, is_on, Move, on_and, in_at}
 use Rattle.roman_joint.proofs.WordLemmas.{alive_more}
 use Rattle.roman_joint.proofs.words.each_moves_alive.Goals as goal
 
@@ -8,24 +7,24 @@ nowhere = record { lanes = 0; from = 0; to = 0 }
 
 pub shifted-requires : goal.shifted-requires
 shifted-requires g c =
-    (search rules, c.requires (get_or c.args.moves.now c.loop-way.way-index nowhere) (in_at c.args.moves.now c.loop-way.way-index nowhere (omega arith)))
+    (search rules, c.requires (get_or c.args.moves.now c.loop-step.step-index nowhere) (in_at c.args.moves.now c.loop-step.step-index nowhere (omega arith)))
 
 -- tests that agree where it matters give the same result
 where_on : (on a b : Bool) → (on ≡ true → a ≡ b) → not (on && not a) ≡ not (on && not b)
 where_on true a b h = ap (λ t. not (not t)) (h refl)
 where_on false a b h = refl
 
-pub loop-way-preserved : goal.loop-way-preserved
-loop-way-preserved g c =
-    let left = c.loop-way.left in
+pub loop-step-preserved : goal.loop-step-preserved
+loop-step-preserved g c =
+    let left = c.loop-step.left in
     let next = c.unmoved-left.result in
-    let before = c.loop-way.invariant in
+    let before = c.loop-step.invariant in
     let long = c.unmoved-left.ensures.long in
     let word = λ (i lane : ℕ) (within : i < g.row.N). ap (λ z. is_on z lane) (get_or-zip2 bit_and left next i 0 0 0 (omega (arith, before.long)) (omega (arith, long))) in record {
       long = length-zip2 bit_and left next (before.long ∙ sym long) ∙ before.long;
       alive = λ i lane within l h.
           let moves = c.args.moves.now in
-          let at = c.loop-way.way-index in
+          let at = c.loop-step.step-index in
           let move = get_or moves at nowhere in
           let in_moves = in_at moves at nowhere (omega arith) in
           let alive = get_or c.args.alive i 0 in

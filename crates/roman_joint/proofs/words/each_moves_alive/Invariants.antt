@@ -2,10 +2,10 @@ use Rattle.roman_joint.proofs.Common.{◌≡◌, ℕ, ◌+◌, ◌-◌, ◌<◌,
 use Rattle.roman_joint.proofs.words.each_moves_alive.Given as goal
 
 -- the lanes from which the moves so far lead to alive lanes
-abbrev pub invariant-loop-way : goal.invariant-loop-way
-invariant-loop-way g l = record {
+abbrev pub invariant-loop-step : goal.invariant-loop-step
+invariant-loop-step g l = record {
   long : length l.left ≡ g.row.N;
   alive : (i lane : ℕ) → i < g.row.N → lane < 64 → ((move : Move) → IsIn move l.moves → is_on move.lanes lane ≡ true → (move.from ≤ lane) × (lane + move.to - move.from < 64)) →
-      is_on (slice_index l.left i) lane ≡ (is_on l.good lane && not (list_any (λ move. is_on move.lanes lane && not (is_on (slice_index l.alive i) (lane + move.to - move.from))) (take l.way-index l.moves)));
+      is_on (slice_index l.left i) lane ≡ (is_on l.good lane && not (list_any (λ move. is_on move.lanes lane && not (is_on (slice_index l.alive i) (lane + move.to - move.from))) (take l.step-index l.moves)));
   within : (i lane : ℕ) → i < g.row.N → is_on l.good lane ≡ false → is_on (slice_index l.left i) lane ≡ false;
 }

@@ -1,5 +1,4 @@
-use Rattle.roman_opening.proofs.Common.{refl, Accepts, IsRelated, IsRelation}
-use Rattle.roman_opening.proofs.EndingLemmas.{told_more}
+use Rattle.roman_opening.proofs.Common.{refl, Accepts, IsRelated, IsRelation, IfSome_then}
 use Rattle.roman_opening.proofs.OpeningLemmas.{opens_none, relation_is}
 use Rattle.roman_opening.proofs.opening.open_relation.Goals as goal
 
@@ -8,7 +7,7 @@ returns-in-Ok-build-clause-opens g c =
     let built = c.in-Ok-build in
     let whole : IsRelation built.relation.joint built.relation.order = record { complete = built.ensures.complete; shaped = built.ensures.shaped; caps = built.ensures.caps } in
     record {
-      holds = told_more _ _ (λ texts. Accepts c.args.name.now texts (λ library. IsRelated library (record { relation = built.relation; start = c.in-Ok.seated.start }))) c.in-Ok.ensures.opens.holds (λ texts accepts.
+      holds = IfSome_then _ {Q = (λ texts. Accepts c.args.name.now texts (λ library. IsRelated library (record { relation = built.relation; start = c.in-Ok.seated.start })))} c.in-Ok.ensures.opens.holds (λ texts accepts.
           record { library = accepts.library; accepted = accepts.accepted; holds = relation_is accepts.library c.in-Ok.seated _ accepts.holds built.ensures.joint refl whole });
       same = c.in-Ok.ensures.opens.same;
     }

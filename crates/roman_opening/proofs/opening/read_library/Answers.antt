@@ -1,6 +1,5 @@
-use Rattle.roman_opening.proofs.Common.{refl, refusal_line, TurnsAway}
+use Rattle.roman_opening.proofs.Common.{refl, refusal_line, TurnsAway, IfSome_then}
 use Rattle.roman_opening.specs.declared.status.Status.TheVariants as status
-use Rattle.roman_opening.proofs.EndingLemmas.{told_more}
 use Rattle.roman_opening.proofs.OpeningLemmas.{same_outputs, opens_fault, opens_line, opens_none}
 use Rattle.roman_opening.proofs.opening.read_library.Goals as goal
 
@@ -15,7 +14,7 @@ returns-in-Err-Refused-clause-reads g c =
     let refusal = c.in-Err-Refused.refusal in
     let same = same_outputs _ _ _ _ (g.O.Sink.written c.args.out.now) (g.O.Sink.faults c.args.out.now) c.load.ensures.texts (rw c.in-Err-Refused.field-0-is at c.in-Err-Refused.ensures.cause) in
     opens_line (TurnsAway c.args.name.now) _ _ _ _ (refusal_line refusal) status.Refused c.finish.result c.put_refusal.result same tt (λ e. let h : ⊥ = cc in h)
-    (told_more _ _ (λ texts. TurnsAway c.args.name.now texts (refusal_line refusal) status.Refused) (rw c.in-Err-Refused.field-0-is at c.in-Err-Refused.ensures.meaning) (λ texts means. rw means (refl, refl)))
+    (IfSome_then _ {Q = (λ texts. TurnsAway c.args.name.now texts (refusal_line refusal) status.Refused)} (rw c.in-Err-Refused.field-0-is at c.in-Err-Refused.ensures.meaning) (λ texts means. rw means (refl, refl)))
     c.put_refusal.ensures.puts c.put_refusal.ensures.cause c.finish.ensures
 
 pub returns-in-Err-Memory-clause-reads : goal.returns-in-Err-Memory-clause-reads

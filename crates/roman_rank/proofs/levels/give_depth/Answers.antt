@@ -4,7 +4,7 @@ use Rattle.roman_rank.proofs.levels.give_depth.Goals as goal
 
 pub bounds-depths-pair : goal.bounds-depths-pair
 bounds-depths-pair c =
-    omega (arith, c.known.ensures.in_range c.walk-pair.result.0 (node_entry c.args.order.now.list c.loop-i.i (as_entry c.walk-pair.result) c.walk-pair.ensures.entry), c.requires.pairs, c.loop-i.auto.depths)
+    omega (arith, c.known.ensures.in_range c.read_on-pair.result.0 (node_entry c.args.order.now.list c.loop-i.i (as_entry c.read_on-pair.result) c.read_on-pair.ensures.entry), c.requires.pairs, c.loop-i.auto.depths)
 
 pub loop-i-init : goal.loop-i-init
 loop-i-init c = record {
@@ -16,11 +16,11 @@ loop-i-init c = record {
 pub loop-i-preserved : goal.loop-i-preserved
 loop-i-preserved c =
     let L = c.args.order.now.list in
-    let inside : c.walk-pair.result.0 < length c.loop-i.depths =
-    omega (arith, c.known.ensures.in_range c.walk-pair.result.0 (node_entry L c.loop-i.i (as_entry c.walk-pair.result) c.walk-pair.ensures.entry), c.requires.pairs, c.loop-i.auto.depths) in
+    let inside : c.read_on-pair.result.0 < length c.loop-i.depths =
+    omega (arith, c.known.ensures.in_range c.read_on-pair.result.0 (node_entry L c.loop-i.i (as_entry c.read_on-pair.result) c.read_on-pair.ensures.entry), c.requires.pairs, c.loop-i.auto.depths) in
     record {
-      gives = gives_more L c.args.start c.loop-i.i c.args.n c.walk-pair.result.0 c.args.depths.now c.loop-i.depths (omega arith)
-          (node_at L c.loop-i.i (as_entry c.walk-pair.result) c.walk-pair.ensures.entry) inside c.loop-i.invariant.gives;
+      gives = gives_more L c.args.start c.loop-i.i c.args.n c.read_on-pair.result.0 c.args.depths.now c.loop-i.depths (omega arith)
+          (node_at L c.loop-i.i (as_entry c.read_on-pair.result) c.read_on-pair.ensures.entry) inside c.loop-i.invariant.gives;
       within = omega arith;
-      ahead = c.walk-pair.ensures.ahead;
+      ahead = c.read_on-pair.ensures.ahead;
     }

@@ -1,5 +1,5 @@
 use Rattle.roman_repair.proofs.Common.{◌*◌, ◌+◌, sym, ◌∙◌, arith, on_zero, mul-le-mul_left}
-use Rattle.roman_repair.proofs.Growing.{run_lanes, run_some, spread_more}
+use Rattle.roman_repair.proofs.Growing.{stretch_lanes, stretch_some, spread_more}
 use Rattle.roman_repair.proofs.lanes.spread_lanes.Goals as goal
 
 pub lane-init : goal.lane-init
@@ -12,7 +12,7 @@ lane-init c = record {
 pub lanes_between-spread-requires : goal.lanes_between-spread-requires
 lanes_between-spread-requires c =
     let few = mul-le-mul_left c.args.lanes c.requires.0 in
-    let next = run_some c.args.word c.lane.lane c.next_lane-end.result c.args.lanes c.ranges.word.fits (omega (arith, few, c.requires.1)) c.lane-test.true c.next_lane-end.ensures.range.0 (c.lane.invariant.on c.lane-test.true) c.next_lane-end.ensures.on in
+    let next = stretch_some c.args.word c.lane.lane c.next_lane-end.result c.args.lanes c.ranges.word.fits (omega (arith, few, c.requires.1)) c.lane-test.true c.next_lane-end.ensures.range.0 (c.lane.invariant.on c.lane-test.true) c.next_lane-end.ensures.on in
     let begin = mul-le-mul_left c.args.width next in
     let end = mul-le-mul_left c.args.width c.next_lane-end.ensures.range.1 in
     (omega (arith, begin, c.requires.0), omega (arith, end, c.requires.1))
@@ -20,7 +20,7 @@ lanes_between-spread-requires c =
 pub lane-smaller : goal.lane-smaller
 lane-smaller c =
     let few = mul-le-mul_left c.args.lanes c.requires.0 in
-    let next = run_some c.args.word c.lane.lane c.next_lane-end.result c.args.lanes c.ranges.word.fits (omega (arith, few, c.requires.1)) c.lane-test.true c.next_lane-end.ensures.range.0 (c.lane.invariant.on c.lane-test.true) c.next_lane-end.ensures.on in
+    let next = stretch_some c.args.word c.lane.lane c.next_lane-end.result c.args.lanes c.ranges.word.fits (omega (arith, few, c.requires.1)) c.lane-test.true c.next_lane-end.ensures.range.0 (c.lane.invariant.on c.lane-test.true) c.next_lane-end.ensures.on in
     omega (arith, next, c.lane-test.true, c.next_lane-lane-in-lane.ensures.range)
 
 pub lane-preserved : goal.lane-preserved
@@ -30,7 +30,7 @@ lane-preserved c =
     let few = mul-le-mul_left c.args.lanes c.requires.0 in
     record {
       spread = spread_more c.args.word c.lane.spread c.lanes_between-spread.result c.lane.lane end.result next.result c.args.width c.lane.invariant.spread c.lanes_between-spread.ensures end.ensures.range.0 next.ensures.range.0
-          (run_lanes c.args.word c.lane.lane end.result c.ranges.word.fits (omega (arith, few, c.requires.1, end.ensures.range)) end.ensures.off) next.ensures.off;
+          (stretch_lanes c.args.word c.lane.lane end.result c.ranges.word.fits (omega (arith, few, c.requires.1, end.ensures.range)) end.ensures.off) next.ensures.off;
       range = next.ensures.range.1;
       on = next.ensures.on;
     }

@@ -3,7 +3,7 @@ use Rattle.roman_repair.proofs.replaying.keep_grown.Given as goal
 
 -- what the remaining lanes stand for is left
 abbrev pub invariant-left : goal.invariant-left
-invariant-left g l = HasJudged (g.J.Rules.arena l.joint) (g.J.Rules.lanes l.joint) (entries_grown l.fn.newcomer) l.event l.left l.fn.order l.order l.fn.asked l.asked l.fn.steps l.steps
+invariant-left g l = HasJudged (g.J.Rules.arena l.joint) (g.J.Rules.lanes l.joint) (entries_grown l.fn.newcomer) l.batch l.left l.fn.order l.order l.fn.probe l.probe l.fn.steps l.steps
 
 -- each turn takes at least one lane
 abbrev pub decreases-left : goal.decreases-left

@@ -1,4 +1,4 @@
-use Rattle.roman_repair.proofs.Common.{[], ◌++◌, refl, sym, ap, ◌∙◌, subst, arith, is_listed, Board, MayAskAlone, candidates, IsEvent}
+use Rattle.roman_repair.proofs.Common.{[], ◌++◌, refl, sym, ap, ◌∙◌, subst, arith, is_listed, Board, MayProbeAlone, candidates, IsBatch}
 use Rattle.roman_repair.proofs.Growing.{next_ready, replay_on, replayed_all}
 use Rattle.roman_repair.proofs.Replayed.{stays}
 use Rattle.roman_repair.proofs.replaying.replay.Goals as goal
@@ -7,25 +7,25 @@ pub replay-init : goal.replay-init
 replay-init g c = record {
   goes = stays _ _ _ _ _ _ (record {
     candidates = c.requires.are;
-    may = subst (λ o. MayAskAlone (g.J.Rules.arena c.args.joint.now) o c.args.order.now.list (candidates c.args.newcomer.states c.args.order.now)) (sym c.nothing-asked.ensures.alone) c.requires.may;
-    known = c.nothing-asked.ensures.known _ _ (is_listed (g.J.Rules.arena c.args.joint.now) c.args.order.now.list);
+    may = subst (λ o. MayProbeAlone (g.J.Rules.arena c.args.joint.now) o c.args.order.now.list (candidates c.args.newcomer.states c.args.order.now)) (sym c.nothing-probe.ensures.alone) c.requires.may;
+    known = c.nothing-probe.ensures.known _ _ (is_listed (g.J.Rules.arena c.args.joint.now) c.args.order.now.list);
   });
   rest = refl;
 }
 
 pub keep_grown-requires-clause-ready : goal.keep_grown-requires-clause-ready
 keep_grown-requires-clause-ready g c =
-    let next = c.next_waiting_event.new.self in
+    let next = c.next_waiting_batch.new.self in
     let wide = ap (λ (b : Board). b.waiting_lanes) c.replay.invariant.rest ∙ c.requires.lanes in
     record {
       shaped = grind arith;
-      event = subst (λ m. IsEvent m c.in-Some.event) wide c.in-Some.ensures.event;
-      ready = (candidates c.args.newcomer.states next, next_ready _ _ c.args.newcomer c.replay.order next _ c.in-Some.event wide c.in-Some.ensures.first c.next_waiting_event.ensures.rest c.replay.invariant.goes.can);
+      batch = subst (λ m. IsBatch m c.in-Some.batch) wide c.in-Some.ensures.batch;
+      ready = (candidates c.args.newcomer.states next, next_ready _ _ c.args.newcomer c.replay.order next _ c.in-Some.batch wide c.in-Some.ensures.first c.next_waiting_batch.ensures.rest c.replay.invariant.goes.can);
     }
 
 pub replay-preserved : goal.replay-preserved
 replay-preserved g c = record {
-  goes = replay_on _ _ c.args.newcomer c.args.order.now c.replay.order c.next_waiting_event.new.self _ _ _ c.in-Some.event _ _ _ (ap (λ (b : Board). b.waiting_lanes) c.replay.invariant.rest ∙ c.requires.lanes) c.in-Some.ensures.first c.next_waiting_event.ensures.rest c.keep_grown.ensures.replayed c.keep_grown.ensures.rest c.replay.invariant.goes;
+  goes = replay_on _ _ c.args.newcomer c.args.order.now c.replay.order c.next_waiting_batch.new.self _ _ _ c.in-Some.batch _ _ _ (ap (λ (b : Board). b.waiting_lanes) c.replay.invariant.rest ∙ c.requires.lanes) c.in-Some.ensures.first c.next_waiting_batch.ensures.rest c.keep_grown.ensures.replayed c.keep_grown.ensures.rest c.replay.invariant.goes;
   rest = grind arith;
 }
 

@@ -1,4 +1,4 @@
-use Rattle.roman_repair.proofs.Common.{[], ◌*◌, sym, ap, ◌∙◌, subst, arith, Some, ◌≡◌, Board, IsShaped, lanes_in, replay_grown, list_grown, candidates, AreCandidates, readings_of_entries, with_replay, count, sizes_of, system_of, NamedSys, length-below, room_for_pairs, readings, arena_of, IsSettledOn, MayAskAlone, joint_numbered}
+use Rattle.roman_repair.proofs.Common.{[], ◌*◌, sym, ap, ◌∙◌, subst, arith, Some, ◌≡◌, Board, IsShaped, lanes_in, replay_grown, list_grown, candidates, AreCandidates, readings_of_entries, with_replay, count, sizes_of, system_of, NamedSys, length-below, room_for_pairs, readings, arena_of, IsSettledOn, MayProbeAlone, joint_numbered}
 use Rattle.roman_repair.proofs.Keeping.{candidates_readings}
 use Rattle.roman_repair.proofs.settling.replay_and_settle_on.Given as given
 use Rattle.roman_repair.proofs.settling.replay_and_settle_on.Goals as goal
@@ -27,7 +27,7 @@ replay-requires g c =
       slices = c.requires.ready.slices;
       lanes = ap (λ (b : Board). b.waiting_lanes) c.reopen.ensures.moved ∙ c.requires.ready.lanes;
       are = rw list (subst (AreCandidates A []) those c.requires.ready.are);
-      may = rw list (subst (MayAskAlone A (Some c.args.newcomer.k) []) those c.requires.ready.may);
+      may = rw list (subst (MayProbeAlone A (Some c.args.newcomer.k) []) those c.requires.ready.may);
     }
 
 pub settle_on-requires : goal.settle_on-requires

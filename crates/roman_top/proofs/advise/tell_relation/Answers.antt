@@ -29,10 +29,14 @@ returns-in-Ok g c =
     (subst (λ (advising : Advising). SaysAdvice advising text status.Done) (sym advice) (refl, refl))
     c.put_advice.ensures.puts c.put_advice.ensures.cause c.finish-in-Ok.ensures
 
-pub put_advice-requires-clause-related : goal.put_advice-requires-clause-related
-put_advice-requires-clause-related g c =
-    let s = system_of c.args.relation.now.joint in
-    sym (told_related s c.args.start _ c.known.ensures.system c.requires.start (c.if-not-related.ensures.great c.requires.relation.complete))
+pub put_advice-requires-clause-known : goal.put_advice-requires-clause-known
+put_advice-requires-clause-known g c = record {
+  complete = c.requires.relation;
+  priced = c.requires.costs;
+  advises = c.in-Ok.ensures.advises;
+  pair = c.requires.start;
+  related = sym (told_related (system_of c.args.relation.now.joint) c.args.start _ c.known.ensures.system c.requires.start (c.if-not-related.ensures.great c.requires.relation.complete));
+}
 
 pub returns-in-Err-Limit : goal.returns-in-Err-Limit
 returns-in-Err-Limit g c =

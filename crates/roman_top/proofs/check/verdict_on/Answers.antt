@@ -1,5 +1,5 @@
 use Rattle.roman_opening.specs.declared.status.Status.TheVariants as status
-use Rattle.roman_top.proofs.Common.{Err, [], rules, refl, ap, Wrote-nil, numbered, length-below, system_of, IsTooLong, TooLong, WritesText, told_more}
+use Rattle.roman_top.proofs.Common.{Err, [], rules, refl, ap, Wrote-nil, numbered, length-below, system_of, IsTooLong, TooLong, WritesText, IfSome_then}
 use Rattle.roman_top.proofs.CheckLemmas.{found}
 use Rattle.roman_top.proofs.check.verdict_on.Goals as goal
 
@@ -14,7 +14,7 @@ returns-in-Err-TooLong g c = λ written faults.
     let long = found A start (g.F.Shelf.texts c.args.shelf.now) _ name _ _ TooLong (ap g.F.Shelf.texts c.new-source.ensures.shelf) c.new-source.ensures.name c.new-source.ensures.at (c.in-Err-TooLong.ensures.too_long (ap Err c.in-Err-TooLong.field-0-is)) in
     record {
       ends = record {
-        writes = told_more _ _ (λ texts. WritesText (IsTooLong A start name texts) written written status.TooLong) long (λ texts e. record { text = []; run = (e, (refl, refl)); wrote = Wrote-nil written });
+        writes = IfSome_then _ {Q = (λ texts. WritesText (IsTooLong A start name texts) written written status.TooLong)} long (λ texts e. record { text = []; run = (e, (refl, refl)); wrote = Wrote-nil written });
         stops = tt;
         texts = search rules;
         shelf = search rules;

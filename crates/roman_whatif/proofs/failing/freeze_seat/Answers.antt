@@ -1,12 +1,12 @@
-use Rattle.roman_whatif.proofs.Common.{true, seat_of, with_frozen}
-use Rattle.roman_whatif.proofs.Lasting.{parts_with_seats, seat_at_place, is_ready_there, left_frozen, left_freezing}
+use Rattle.roman_whatif.proofs.Common.{true, seat_of, with_frozen, seat_read}
+use Rattle.roman_whatif.proofs.Lasting.{parts_with_seats, is_ready_there, left_frozen, left_freezing}
 use Rattle.roman_whatif.proofs.failing.freeze_seat.Goals as goal
 
 pub returns-then-seat : goal.returns-then-seat
 returns-then-seat g c =
     let n = c.args.relation.now.joint in
     let seat = c.seat-seat.result.now in
-    left_frozen n c.args.relation.now.order c.args.p c.args.k (seat_of n.catalogue seat) c.requires.relation c.requires.pair (seat_at_place n c.args.k seat c.seat-seat.ensures) c.if-seat.true
+    left_frozen n c.args.relation.now.order c.args.p c.args.k (seat_of n.catalogue seat) c.requires.relation c.requires.pair (seat_read n c.args.k seat c.seat-seat.ensures) c.if-seat.true
 
 pub freeze-requires-clause-ready : goal.freeze-requires-clause-ready
 freeze-requires-clause-ready g c = is_ready_there c.args.relation.now.joint c.args.k c.seat-seat.result.now c.seat-seat.ensures c.if-seat.false

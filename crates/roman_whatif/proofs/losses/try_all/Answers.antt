@@ -4,7 +4,7 @@ use Rattle.roman_whatif.proofs.losses.try_all.Goals as goal
 
 pub loop-j-preserved : goal.loop-j-preserved
 loop-j-preserved g c =
-    let n = c.args.base.now.joint in
+    let n = c.args.scenario.now.base.now.joint in
     let old = c.loop-j.table in
     let new = c.fill_row.new.table in
     let lent = c.deref_mut.ensures.value in
@@ -15,10 +15,10 @@ loop-j-preserved g c =
     record {
       trials = c.fill_row.ensures.trials;
       room = ap length back ∙ room ∙ c.loop-j.invariant.room;
-      rows = λ i l. subst (IsToldOf n c.args.p c.args.way i) (sym back) (rows_more n c.args.p c.args.way c.loop-j.j old.items new few before c.loop-j.invariant.rows c.fill_row.ensures.told i l);
+      rows = λ i l. subst (IsToldOf n c.args.scenario.now.pair c.args.scenario.now.way i) (sym back) (rows_more n c.args.scenario.now.pair c.args.scenario.now.way c.loop-j.j old.items new few before c.loop-j.invariant.rows c.fill_row.ensures.told i l);
     }
 
 pub fill_row-requires-clause-rows : goal.fill_row-requires-clause-rows
 fill_row-requires-clause-rows g c =
-    let n = c.args.base.now.joint in
-    λ i l. subst (IsToldOf n c.args.p c.args.way i) (sym c.deref_mut.ensures.value) (c.loop-j.invariant.rows i l)
+    let n = c.args.scenario.now.base.now.joint in
+    λ i l. subst (IsToldOf n c.args.scenario.now.pair c.args.scenario.now.way i) (sym c.deref_mut.ensures.value) (c.loop-j.invariant.rows i l)

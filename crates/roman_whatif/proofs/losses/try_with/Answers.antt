@@ -5,7 +5,7 @@ use Rattle.roman_whatif.proofs.losses.try_with.Goals as goal
 
 pub loop-k-init : goal.loop-k-init
 loop-k-init g c =
-    let base = c.args.base.now.joint in
+    let base = c.args.scenario.now.base.now.joint in
     let mid = c.fail_on-left.new.scratch in
     let table = c.args.table.now in
     let j = c.args.j in
@@ -17,7 +17,7 @@ loop-k-init g c =
       scratch = c.requires.trials.scratch;
       alone =
           told_there table at at c.now.result refl room
-          ∙ told_left c.args.way (j ∷ []) (j ∷ []) base base mid.joint mid.order c.args.p c.fail_on-left.result (told c.now.result) refl refl c.fail_on-left.ensures c.now.ensures.outlook;
+          ∙ told_left c.args.scenario.now.way (j ∷ []) (j ∷ []) base base mid.joint mid.order c.args.scenario.now.pair c.fail_on-left.result (told c.now.result) refl refl c.fail_on-left.ensures c.now.ensures.outlook;
       two = λ i l. absurd (omega (arith, l));
       before = λ i l. told_elsewhere table at i c.now.result (omega (arith, l));
       room = length-set table at c.now.result;
@@ -25,7 +25,7 @@ loop-k-init g c =
 
 pub loop-k-preserved : goal.loop-k-preserved
 loop-k-preserved g c =
-    let base = c.args.base.now.joint in
+    let base = c.args.scenario.now.base.now.joint in
     let second = c.try_second-outlook in
     let table = c.loop-k.table in
     let before = c.loop-k.invariant in
@@ -36,10 +36,10 @@ loop-k-preserved g c =
     let at = 32 * j + k in
     let room : at < length table = omega (arith, few.0, few.1, less, c.requires.room, before.room) in
     record {
-      middle = subst (λ (r : Relation). IsLeft c.args.way (j ∷ []) base c.args.p r.joint r.order c.fail_on-left.result) (sym second.ensures.middle) before.middle;
+      middle = subst (λ (r : Relation). IsLeft c.args.scenario.now.way (j ∷ []) base c.args.scenario.now.pair r.joint r.order c.fail_on-left.result) (sym second.ensures.middle) before.middle;
       scratch = second.ensures.scratch;
       alone = told_elsewhere table at (32 * j + j) second.result (omega (arith, less)) ∙ before.alone;
-      two = told_one_more table (32 * j) k second.result (λ (i : ℕ). left_of base c.args.p c.args.way (i ∷ j ∷ [])) room second.ensures.told before.two;
+      two = told_one_more table (32 * j) k second.result (λ (i : ℕ). left_of base c.args.scenario.now.pair c.args.scenario.now.way (i ∷ j ∷ [])) room second.ensures.told before.two;
       before = λ i l. told_elsewhere table at i second.result (omega (arith, l)) ∙ before.before i l;
       room = length-set table at second.result ∙ before.room;
     }

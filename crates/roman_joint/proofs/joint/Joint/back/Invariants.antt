@@ -1,4 +1,4 @@
-use Rattle.roman_joint.proofs.Common.{◌≡◌, system_of, IsWalk, left, way_left}
+use Rattle.roman_joint.proofs.Common.{◌≡◌, system_of, IsWalk, left, walk_left}
 use Rattle.roman_joint.proofs.joint.Joint.back.Given as goal
 
 -- no delegation was returned yet
@@ -10,4 +10,4 @@ invariant-on g l = record {
 }
 
 abbrev pub decreases-on : goal.decreases-on
-decreases-on g l = way_left (system_of l.self) l.walk
+decreases-on g l = walk_left (system_of l.self) l.walk

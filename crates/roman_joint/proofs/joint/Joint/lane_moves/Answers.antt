@@ -24,8 +24,8 @@ stands c =
     let seat : c.from-5.result ≡ c.args.k - low_in s = omega (arith, c.from-5.ensures, low) in
     let is : place c ≡ span_place s c.args.e c.args.a c.args.k = rw (c.from.ensures, c.from-2.ensures, held.suits.actions, lows, seat) refl in
     let inside : span_place s c.args.e c.args.a c.args.k < length c.table-table.result.now.spans.items =
-    omega (arith, place_within s c.args.e c.args.a c.args.k c.requires.within (omega (arith, c.requires.seat, seats)) c.requires.env c.requires.action, held.turns.long) in
-    record { inside = rw is inside; span = λ span there. held.turns.spans_at.each _ span inside (rw is at there) }
+    omega (arith, place_within s c.args.e c.args.a c.args.k c.requires.within (omega (arith, c.requires.seat, seats)) c.requires.env c.requires.action, held.columns.long) in
+    record { inside = rw is inside; span = λ span there. held.columns.spans_at.each _ span inside (rw is at there) }
 
 pub index-span-requires : goal.index-span-requires
 index-span-requires c = omega (arith, (stands (goal.at.index-span-requires c).After-from-5).inside, c.table-table.result.now.spans.ok.0)

@@ -1,7 +1,7 @@
-use Rattle.roman_joint.proofs.Common.{◌+◌, ◌*◌, slice_index, sym, ap, ◌∙◌, rules, arith, Beh, beh_next, Sizes, number, pair_at, moved, system_of}
+use Rattle.roman_joint.proofs.Common.{◌+◌, ◌*◌, slice_index, sym, ap, ◌∙◌, rules, arith, Beh, beh_next, Sizes, number, pair_at, moved, system_of, size_at}
 use Rattle.roman_joint.proofs.BehaviourLemmas.{Behaves, behaves}
 use Rattle.roman_joint.proofs.OutcomeLemmas.{are_outcomes}
-use Rattle.roman_joint.proofs.Rows.{size_of_seat, count_fits}
+use Rattle.roman_joint.proofs.Rows.{count_fits}
 use Rattle.roman_joint.proofs.joint.Joint.outcomes.Goals as goal
 
 pub out-requires : goal.out-requires
@@ -10,7 +10,7 @@ out-requires c =
     let of : Behaves n c.args.k c.behaviour.result.now = behaves n c.args.k c.behaviour.result.now c.known.ensures c.behaviour.ensures in
     let sizes = c.shape-shape.ensures in
     record {
-      state = omega (arith, size_of_seat (system_of n).seats c.args.k of.seat of.seated, ap (λ (m : Sizes). slice_index m.seats c.args.k) sizes, ap (λ (y : Beh). y.states) of.is);
+      state = omega (arith, size_at (system_of n).seats c.args.k of.seat of.seated, ap (λ (m : Sizes). slice_index m.seats c.args.k) sizes, ap (λ (y : Beh). y.states) of.is);
       env_state = omega (arith, ap (λ (m : Sizes). m.env) sizes, of.env_states);
       action = omega (arith, of.actions);
     }

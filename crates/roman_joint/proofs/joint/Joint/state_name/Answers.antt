@@ -1,20 +1,12 @@
-use Rattle.roman_joint.proofs.Common.{◌<◌, ℕ, List, length, slice_index, sym, ap₂, ◌∙◌, subst, Some, [], ap, map, slice_get, ◌-◌, ◌≡◌, name_at, SeatNames, seat_names, sizes_of, system_of, IsNamedSys, NamedSys, IsSeatBehaviour, NamedBeh, beh_states, names_in, names_of_seat, below, get_or_from_slice_get, slice_get-map, option_map}
+use Rattle.roman_joint.proofs.Common.{◌<◌, ℕ, List, length, slice_index, sym, ap₂, ◌∙◌, subst, Some, [], ap, slice_get, ◌-◌, ◌≡◌, name_at, sizes_of, system_of, IsNamedSys, NamedSys, IsSeatBehaviour, NamedBeh, below, get_or_from_slice_get, size_at}
 use Rattle.roman_joint.proofs.joint.Joint.state_name.Goals as goal
-use Rattle.roman_joint.proofs.BehaviourLemmas.{behaves}
-use Rattle.roman_joint.proofs.Rows.{size_of_seat}
+use Rattle.roman_joint.proofs.BehaviourLemmas.{behaves, states_named}
 
 -- a service has as many states as its behaviour
 state_within : (n : NamedSys) (k b : ℕ) (beh : NamedBeh) → IsNamedSys n → IsSeatBehaviour n k beh → length beh.states ≡ beh.beh.states → b < slice_index (sizes_of (system_of n)).seats k → b < length beh.states
 state_within n k b beh known of states below =
     let at = behaves n k beh known of in
-    subst (λ m. b < m) (size_of_seat (system_of n).seats k at.seat at.seated ∙ ap (λ y. y.states) at.is ∙ sym states) below
-
--- the names of a service's states are those of its behaviour's states
-states_are : (n : NamedSys) (k : ℕ) (beh : NamedBeh) → IsSeatBehaviour n k beh → (seat_names (names_in n) k).states ≡ beh.states
-states_are n k beh of =
-    ap (λ (x : SeatNames). x.states) (get_or_from_slice_get (names_in n).seats k (names_of_seat n.catalogue of.seat) (record { service = []; states = [] })
-    (slice_get-map (names_of_seat n.catalogue) n.seats k ∙ ap (option_map (names_of_seat n.catalogue)) of.seated))
-    ∙ get_or_from_slice_get (map beh_states n.catalogue) of.seat.behaviour beh.states [] (slice_get-map beh_states n.catalogue of.seat.behaviour ∙ ap (option_map beh_states) of.placed)
+    subst (λ m. b < m) (size_at (system_of n).seats k at.seat at.seated ∙ ap (λ y. y.states) at.is ∙ sym states) below
 
 -- the name at a place
 name_there : (names : List (List ℕ)) (i : ℕ) (name : List ℕ) → slice_get names i ≡ Some name → name ≡ name_at names i
@@ -30,4 +22,4 @@ pub returns : goal.returns
 returns c =
     let n = c.args.self.now in
     name_there c.states.result.now c.from.result c.at.result.now c.at.ensures.name
-    ∙ ap₂ name_at (c.states.ensures.names ∙ sym (states_are n c.args.k c.behaviour.result.now c.behaviour.ensures)) c.from.ensures
+    ∙ ap₂ name_at (c.states.ensures.names ∙ sym (states_named n c.args.k c.behaviour.result.now c.behaviour.ensures)) c.from.ensures

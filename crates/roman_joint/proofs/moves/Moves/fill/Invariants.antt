@@ -1,9 +1,9 @@
-use Rattle.roman_joint.proofs.Common.{HoldsTurns, SuitsEnv, system_in, ◌-◌}
+use Rattle.roman_joint.proofs.Common.{HoldsColumns, SuitsEnv, system_in, ◌-◌}
 use Rattle.roman_joint.proofs.moves.Moves.fill.Given as goal
 
--- the spans of the turns so far are there
-abbrev pub invariant-loop-turn : goal.invariant-loop-turn
-invariant-loop-turn l = record {
+-- the spans of the columns so far are there
+abbrev pub invariant-loop-column : goal.invariant-loop-column
+invariant-loop-column l = record {
   suits : SuitsEnv l.parts.environment.now.env l.self;
-  turns : HoldsTurns (system_in l.parts) l.turn l.self;
+  columns : HoldsColumns (system_in l.parts) l.column l.self;
 }

@@ -1,5 +1,5 @@
-use Rattle.roman_joint.proofs.Common.{count, sizes_of, length-below, ℕ, Some, IsFalse, get_or, sym, ap, ◌∙◌, subst, arith, option_map, find, is_empty, system_of, IsPairWith, outcome_number}
-use Rattle.roman_joint.proofs.Finds.{all_pairs, in_at, if_some, no_numbers, some_numbers, none_there, some_there}
+use Rattle.roman_joint.proofs.Common.{count, sizes_of, length-below, ℕ, Some, IsFalse, get_or, sym, ap, ◌∙◌, subst, arith, option_map, find, is_empty, system_of, IsPairWith, outcome_number, in_at}
+use Rattle.roman_joint.proofs.Finds.{all_pairs, if_some, no_numbers, some_numbers, none_there, some_there}
 use Rattle.roman_joint.proofs.numbered.JointRules.examine.Goals as goal
 
 pub returns-then-is_empty-clause-finding : goal.returns-then-is_empty-clause-finding

@@ -1,6 +1,6 @@
 use Rattle.roman_joint.proofs.Common.{true, ◌≡◌, ℕ, ◌+◌, ◌*◌, Bool, false, not, ◌&&◌, ◌∙◌, sym, ap, ap₂, subst, add-one, arith, length, length-map, all_below, is_beaten, numbered, is_on, system_of, seat_of, lanes_in, AreAlive, on_zero}
 use Rattle.roman_joint.proofs.WordLemmas.{all_pass}
-use Rattle.roman_joint.proofs.AllowedLemmas.{turn_open, judged, and_nothing, cut_off, all_further}
+use Rattle.roman_joint.proofs.AllowedLemmas.{target_move_open, judged, and_nothing, cut_off, all_further}
 use Rattle.roman_joint.proofs.GoodLemmas.{known, beaten_dead}
 use Rattle.roman_joint.proofs.numbered.JointRules.unserved.Goals as goal
 
@@ -20,7 +20,7 @@ returns-then-left-eq0-clause-lost c x gone ok rows lane l =
     let beaten = is_beaten (numbered s) gone (x * lanes_in s + lane) c.args.a in
     let none : (is_on c.args.wanted lane && all_below beaten c.loop-k.k) ≡ false = sym (c.loop-k.invariant.lost x gone ok rows lane l) ∙ (ap (λ w. is_on w lane) c.if-left-eq0.true ∙ on_zero lane) in
     on_zero lane ∙ (sym (cut_off beaten c.loop-k.k (length s.seats) (is_on c.args.wanted lane) (omega (arith, length-map c.args.self.now.seats (seat_of c.args.self.now.catalogue), c.serving-k-end.ensures.few)) none)
-    ∙ ap (λ b. is_on c.args.wanted lane && b) (judged s c.args.row.now x c.args.a lane true gone ok l (turn_open s c.args.row.now c.args.a c.in-Some.to c.in-Some.ensures)))
+    ∙ ap (λ b. is_on c.args.wanted lane && b) (judged s c.args.row.now x c.args.a lane true gone ok l (target_move_open s c.args.row.now c.args.a c.in-Some.to c.in-Some.ensures)))
 
 pub loop-k-preserved : goal.loop-k-preserved
 loop-k-preserved c = record {
@@ -44,7 +44,7 @@ returns-clause-lost c x gone ok rows lane l =
     let (within, dead) = c.serving-k-end.ensures.rest k (omega arith) (omega (arith, seats)) in
     beaten_dead s x c.args.a k lane c.args.row.now c.in-Some.to gone h c.in-Some.ensures within m (subst (AreAlive s gone c.in-Some.to) dead living) l) in
     c.loop-k.invariant.lost x gone ok rows lane l
-    ∙ ap (λ b. is_on c.args.wanted lane && b) (all ∙ judged s c.args.row.now x c.args.a lane true gone ok l (turn_open s c.args.row.now c.args.a c.in-Some.to c.in-Some.ensures))
+    ∙ ap (λ b. is_on c.args.wanted lane && b) (all ∙ judged s c.args.row.now x c.args.a lane true gone ok l (target_move_open s c.args.row.now c.args.a c.in-Some.to c.in-Some.ensures))
 
 pub returns-in_default-clause-within : goal.returns-in_default-clause-within
 returns-in_default-clause-within c lane off = on_zero lane

@@ -1,6 +1,6 @@
 use Rattle.roman_joint.proofs.Common.{true, false, ◌≡◌, ◌+◌, ◌*◌, ◌∙◌, length, sym, subst, arith, set, all_below, is_beaten, is_justified, Act, numbered, system_of, Keeps, lanes_in, band_in}
 use Rattle.roman_joint.proofs.SplitLemmas.{joint_sizes}
-use Rattle.roman_joint.proofs.AllowedLemmas.{turn_open, judged}
+use Rattle.roman_joint.proofs.AllowedLemmas.{target_move_open, judged}
 use Rattle.roman_joint.proofs.BandLemmas.{row_in, in_band, keeps_nothing, keeps_one, keeps_same}
 use Rattle.roman_joint.proofs.numbered.JointRules.unserved_band.Goals as goal
 
@@ -24,4 +24,4 @@ returns-clause-lost c y gone ok rows =
     let s = system_of c.args.self.now in
     keeps_same s (y * band_in s) (band_in s) (λ p. all_below (is_beaten (numbered s) gone p c.args.a) (length s.seats)) (λ p. is_justified (numbered s) gone p (Act c.args.a)) c.args.left.now c.clear_served.new.left
     (λ i lane l m. judged s (row_in s (y * band_in s + i) c.args.row.now) (y * band_in s + i) c.args.a lane true gone (in_band s y i c.args.row.now (joint_sizes c.args.self.now c.known.ensures) ok l).looked m
-    (turn_open s c.args.row.now c.args.a c.in-Some.to c.in-Some.ensures)) (c.clear_served.ensures.left y gone ok rows)
+    (target_move_open s c.args.row.now c.args.a c.in-Some.to c.in-Some.ensures)) (c.clear_served.ensures.left y gone ok rows)

@@ -1,5 +1,5 @@
-use Rattle.roman_joint.proofs.Common.{drop_all, flat_map, find, option_map, ◌≡◌, ℕ, ◌<◌, Bool, List, Option, Some, None, map, get_or, sym, ap, ◌∙◌, outcome_number}
-use Rattle.roman_joint.proofs.Finds.{in_at, if_some, find-map, find_in_next}
+use Rattle.roman_joint.proofs.Common.{drop_all, flat_map, find, option_map, ◌≡◌, ℕ, ◌<◌, Bool, List, Option, Some, None, map, get_or, sym, ap, ◌∙◌, outcome_number, in_at}
+use Rattle.roman_joint.proofs.Finds.{if_some, find-map, find_in_next}
 use Rattle.roman_joint.proofs.outcomes.Outcomes.first_gone.Goals as goal
 
 found_at : (number : ℕ → ℕ) (gone : ℕ → Bool) (states : List ℕ) (o : Option ℕ) → o ≡ find (λ b. gone (number b)) states → find gone (map number states) ≡ option_map number o

@@ -1,5 +1,5 @@
 use Rattle.roman_order.proofs.Common.{rules}
-use Rattle.roman_order.proofs.Events.{CanWait-nil}
+use Rattle.roman_order.proofs.Batches.{CanWait-nil}
 use Rattle.roman_order.proofs.Tables.{blank_sound}
 use Rattle.roman_order.proofs.order.Order.build.Goals as goal
 

@@ -6,4 +6,4 @@ pub write_stamps-requires-clause-rows : goal.write_stamps-requires-clause-rows
 write_stamps-requires-clause-rows c =
     let a = c.self.inside in
     let long : a.rows * a.lanes ≡ length c.deref_mut.result.now = grind (arith, length-replicate) in
-    (a.rows, long, rw c.deref.ensures.value (rows_within a.rows a.lanes a.events.items c.self.invariant.placed.in_range c.self.invariant.counted.each))
+    (a.rows, long, rw c.deref.ensures.value (rows_within a.rows a.lanes a.batches.items c.self.invariant.placed.in_range c.self.invariant.counted.each))

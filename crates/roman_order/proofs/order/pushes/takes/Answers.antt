@@ -1,5 +1,5 @@
 use Rattle.roman_order.proofs.Common.{◌≡◌, arith}
-use Rattle.roman_order.proofs.Events.{last_is}
+use Rattle.roman_order.proofs.Batches.{last_is}
 use Rattle.roman_order.proofs.Lanes.{all_lower}
 use Rattle.roman_order.proofs.order.pushes.takes.Goals as goal
 

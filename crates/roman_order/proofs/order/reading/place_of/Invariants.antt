@@ -1,7 +1,7 @@
 use Rattle.roman_order.proofs.Common.{◌-◌, ◌<◌, ◌≤◌, get_or, places_of}
 use Rattle.roman_order.proofs.order.reading.place_of.Given as goal
 
--- the event is at place low or later, and before high
+-- the batch is at place low or later, and before high
 abbrev pub invariant-search : goal.invariant-search
 invariant-search l = record {
   within : l.low < l.high;

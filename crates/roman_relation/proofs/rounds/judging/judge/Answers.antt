@@ -33,10 +33,8 @@ returns-clause-done g c gone i lane kept is_band h l off a =
     let A = g.J.Rules.arena c.args.joint.now in
     let p : ℕ = (c.args.y * g.J.Rules.band c.args.joint.now + i) * g.J.Rules.lanes c.args.joint.now + lane in
     let ok = c.known.ensures.numbered in
-    by_test (A.allows p a)
-    (λ t.
+    by_test (A.allows p a) (λ t.
     let within : a < A.actions = ok.allowed p a t in
     let bit = (c.row_actions-allowed.ensures.band c.args.y i lane c.first_row-row.ensures h l).each a (omega (arith, within, ok.few_actions)) in
     let judged = c.loop-a.invariant.judged gone i lane a kept h l (omega (arith, within, c.loop-a-test.false, c.actions-a-end.ensures)) (eq-eqb (bit_at c.row_actions-allowed.result a) 1 (bit ∙ ap bit_of t)) in
-    (rw c.band_start-x.ensures at judged) off)
-    (λ refused. unallowed_unjustified A _ p a refused)
+    (rw c.band_start-x.ensures at judged) off) (λ refused. unallowed_unjustified A _ p a refused)

@@ -1,5 +1,5 @@
 use Rattle.roman_relation.proofs.Common.{◌≡◌, ◌+◌, ◌*◌, [], ◌++◌, length, take, drop, refl, sym, ap, ◌∙◌, subst, arith, ◌==◌, moves_noted, has_band, IsDistinct, nodes_of, as_entry, Board, set_lanes, fall_append, in_append_left, IsIn, entries_at, length-entries_at, drop_all, length-take, take-length, take-append_seam}
-use Rattle.roman_relation.proofs.Losses.{event_listed, in_entries}
+use Rattle.roman_relation.proofs.Losses.{batch_listed, in_entries}
 use Rattle.roman_relation.proofs.Noting.{IsReached, kept_ends, more_new, new_band, none_moves, other_band, own_band, passed_unkept}
 use Rattle.roman_relation.proofs.Pushing.{entry_new}
 use Rattle.roman_relation.proofs.rounds.losses.mark_losses.Goals as goal
@@ -21,8 +21,8 @@ losses-init g c =
       });
     }
 
-pub mark_event-requires-clause-listed : goal.mark_event-requires-clause-listed
-mark_event-requires-clause-listed g c lane on = grind (arith, event_listed)
+pub mark_batch-requires-clause-listed : goal.mark_batch-requires-clause-listed
+mark_batch-requires-clause-listed g c lane on = grind (arith, batch_listed)
 
 pub losses-preserved : goal.losses-preserved
 losses-preserved g c =
@@ -34,31 +34,31 @@ losses-preserved g c =
     let b = c.args.order.now in
     let d = c.losses.order in
     let i = c.losses.i in
-    let e = c.event_at-event.result in
-    let new = c.mark_event.new.order in
+    let e = c.batch_at-batch.result in
+    let new = c.mark_batch.new.order in
     let j = i + c.len.result in
     let M = entries_at n e in
     let inv = c.losses.invariant in
-    let rest = c.mark_event.ensures.rest ∙ ap (λ (y : Board). record y { marks = new.marks; before = new.before }) inv.rest in
+    let rest = c.mark_batch.ensures.rest ∙ ap (λ (y : Board). record y { marks = new.marks; before = new.before }) inv.rest in
     let old : d.list ≡ b.list = ap (λ (y : Board). y.list) inv.rest in
-    let list : new.list ≡ d.list = ap (λ (y : Board). y.list) c.mark_event.ensures.rest in
+    let list : new.list ≡ d.list = ap (λ (y : Board). y.list) c.mark_batch.ensures.rest in
     let distinct : IsDistinct (λ p q. p == q) (nodes_of d.list) = rw old c.known-2.ensures.distinct in
     let lanes : d.lanes ≡ n = ap (λ (y : Board). y.lanes) inv.rest ∙ c.requires.shaped.lanes in
-    let event = rw lanes at c.event_at-event.ensures.event in
+    let batch = rw lanes at c.batch_at-batch.ensures.batch in
     let L = drop start (take i d.list) in
     let R = drop (i + length (set_lanes e.lanes)) d.list in
-    let entries : drop i d.list ≡ M ++ R = rw lanes at c.event_at-event.ensures.entries in
+    let entries : drop i d.list ≡ M ++ R = rw lanes at c.batch_at-batch.ensures.entries in
     let long : c.len.result ≡ length M = c.len.ensures ∙ sym (length-entries_at n e) in
     let here : take c.len.result (drop i d.list) ≡ M = rw (long, entries) (take-append_seam M R) in
-    let upto : drop start (take j new.list) ≡ L ++ M = rw list (more_new d.list start i c.len.result inv.start (omega (arith, c.event_at-event.ensures.within)) ∙ ap (λ N. L ++ N) here) in
-    let (noted, moved) = c.mark_event.ensures.noted start (has_band n w L) (has_band n w (L ++ M)) inv.reached.noted
+    let upto : drop start (take j new.list) ≡ L ++ M = rw list (more_new d.list start i c.len.result inv.start (omega (arith, c.batch_at-batch.ensures.within)) ∙ ap (λ N. L ++ N) here) in
+    let (noted, moved) = c.mark_batch.ensures.noted start (has_band n w L) (has_band n w (L ++ M)) inv.reached.noted
     (λ lane on. entry_new A c.known.ensures.numbered d.list start i (as_entry (e.row * n + lane, e.reason)) distinct inv.start
-    (subst (IsIn _) (sym entries) (in_append_left _ M R (in_entries n e.row e.lanes lane e.reason (omega (arith, event.within lane on, c.known.ensures.lanes.1)) on))))
-    (own_band n w L e event) (λ z ne. other_band n w z L e event ne) in
-    let reached : IsReached A n w mid start c.args.steps.now c.mark_event.new.steps (L ++ M) new = record {
+    (subst (IsIn _) (sym entries) (in_append_left _ M R (in_entries n e.row e.lanes lane e.reason (omega (arith, batch.within lane on, c.known.ensures.lanes.1)) on))))
+    (own_band n w L e batch) (λ z ne. other_band n w z L e batch ne) in
+    let reached : IsReached A n w mid start c.args.steps.now c.mark_batch.new.steps (L ++ M) new = record {
       noted = noted;
-      spent = omega (arith, inv.reached.spent, moved, ap (λ k. moves_noted A n w mid k (has_band n w (L ++ M))) (ap (λ (y : Board). y.rows) c.mark_event.ensures.rest));
-      cost = omega (arith, inv.reached.cost, c.mark_event.ensures.cost, fall_append A L M);
+      spent = omega (arith, inv.reached.spent, moved, ap (λ k. moves_noted A n w mid k (has_band n w (L ++ M))) (ap (λ (y : Board). y.rows) c.mark_batch.ensures.rest));
+      cost = omega (arith, inv.reached.cost, c.mark_batch.ensures.cost, fall_append A L M);
     } in
     record {
       start = omega (arith, inv.start, c.next_loss-next.ensures.from);

@@ -7,27 +7,27 @@ use Rattle.roman_repair.proofs.dying.renaming.rename_row.Goals as goal
 
 pub overflow_mul-first : goal.overflow_mul-first
 overflow_mul-first c =
-    let first = ap (λ m. c.args.event.row * m) c.lanes.ensures.value in
-    omega (arith, first, row_in (system_of c.args.joint.now) c.args.event c.requires.within, ap count c.shape-shape.ensures, c.known.ensures.counted)
+    let first = ap (λ m. c.args.batch.row * m) c.lanes.ensures.value in
+    omega (arith, first, row_in (system_of c.args.joint.now) c.args.batch c.requires.within, ap count c.shape-shape.ensures, c.known.ensures.counted)
 
 pub overflow_mul-i : goal.overflow_mul-i
 overflow_mul-i c =
-    let here = part_in c.args.joint.now _ c.args.event _ _ _ _ _ _ _ c.requires.within c.shape-shape.ensures c.requires.ready.seat (ap (λ m. c.args.event.row * m) c.lanes.ensures.value) c.part_width-width.ensures.part c.left.invariant.within c.first_part-i.ensures in
+    let here = part_in c.args.joint.now _ c.args.batch _ _ _ _ _ _ _ c.requires.within c.shape-shape.ensures c.requires.ready.seat (ap (λ m. c.args.batch.row * m) c.lanes.ensures.value) c.part_width-width.ensures.part c.left.invariant.within c.first_part-i.ensures in
     omega (arith, here.inside, ap count c.shape-shape.ensures, c.known.ensures.counted)
 
 pub overflow_add-first : goal.overflow_add-first
 overflow_add-first c =
-    let here = part_in c.args.joint.now _ c.args.event _ _ _ _ _ _ _ c.requires.within c.shape-shape.ensures c.requires.ready.seat (ap (λ m. c.args.event.row * m) c.lanes.ensures.value) c.part_width-width.ensures.part c.left.invariant.within c.first_part-i.ensures in
+    let here = part_in c.args.joint.now _ c.args.batch _ _ _ _ _ _ _ c.requires.within c.shape-shape.ensures c.requires.ready.seat (ap (λ m. c.args.batch.row * m) c.lanes.ensures.value) c.part_width-width.ensures.part c.left.invariant.within c.first_part-i.ensures in
     omega (arith, here.inside, ap count c.shape-shape.ensures, c.known.ensures.counted)
 
 pub rename_part-requires-clause-part : goal.rename_part-requires-clause-part
 rename_part-requires-clause-part c =
-    part_in c.args.joint.now _ c.args.event _ _ _ _ _ _ _ c.requires.within c.shape-shape.ensures c.requires.ready.seat (ap (λ m. c.args.event.row * m) c.lanes.ensures.value) c.part_width-width.ensures.part c.left.invariant.within c.first_part-i.ensures
+    part_in c.args.joint.now _ c.args.batch _ _ _ _ _ _ _ c.requires.within c.shape-shape.ensures c.requires.ready.seat (ap (λ m. c.args.batch.row * m) c.lanes.ensures.value) c.part_width-width.ensures.part c.left.invariant.within c.first_part-i.ensures
 
 pub left-preserved : goal.left-preserved
 left-preserved c =
     let n = lanes_in (system_of c.args.joint.now) in
-    let e = c.args.event in
+    let e = c.args.batch in
     let w = c.part_width-width.result in
     let (i, part, rest) = c.first_part-i.result in
     let parts = part_entries n e.row c.left.left w i part rest e.reason c.first_part-i.ensures ∙ ap (λ m. entries_from (e.row * m + i * w) part e.reason ++ entries_in n e.row rest e.reason) (sym c.lanes.ensures.value) in
@@ -41,5 +41,5 @@ left-preserved c =
 pub returns-clause-list : goal.returns-clause-list
 returns-clause-list c =
     let n = lanes_in (system_of c.args.joint.now) in
-    let empty = ap (λ w. entries_in n c.args.event.row w c.args.event.reason) c.left-test.false ∙ no_entries n c.args.event.row c.args.event.reason in
-    subst (λ M. Renames (system_of c.args.joint.now) c.args.leaver.k (entries_at n c.args.event) M c.args.order.now.list c.left.order.list) empty c.left.invariant.renamed
+    let empty = ap (λ w. entries_in n c.args.batch.row w c.args.batch.reason) c.left-test.false ∙ no_entries n c.args.batch.row c.args.batch.reason in
+    subst (λ M. Renames (system_of c.args.joint.now) c.args.leaver.k (entries_at n c.args.batch) M c.args.order.now.list c.left.order.list) empty c.left.invariant.renamed

@@ -1,10 +1,6 @@
 use Rattle.roman_session.proofs.Common.{err_from_is_err_and}
 use Rattle.roman_session.proofs.AnswerLemmas.{stays_related, answered_whole}
-use Rattle.roman_session.proofs.StepLemmas.{requests_offered}
 use Rattle.roman_session.proofs.session.Session.answer.Goals as goal
-
-pub returns-in_err-next-clause-offered : goal.returns-in_err-next-clause-offered
-returns-in_err-next-clause-offered g c = λ a. requests_offered c.args.self.now a c.known.ensures
 
 pub returns-in_err-next-clause-related : goal.returns-in_err-next-clause-related
 returns-in_err-next-clause-related g c =
@@ -15,18 +11,12 @@ returns-in_err-flush-clause-step g c =
     let p = err_from_is_err_and c.from_residual-in_err-flush.result c.from_residual-in_err-flush.ensures.1 in
     rw p.1 (answered_whole _ _ _ _ _ _ _ _ _ _ c.new-page.ensures.empty c.in_ok-next.ensures.step c.in_err-flush.ensures.puts)
 
-pub returns-in_err-flush-clause-offered : goal.returns-in_err-flush-clause-offered
-returns-in_err-flush-clause-offered g c = λ a. requests_offered c.args.self.now a c.known.ensures
-
 pub returns-in_err-flush-clause-related : goal.returns-in_err-flush-clause-related
 returns-in_err-flush-clause-related g c =
     stays_related c.args.self.now c.answer_on-answered.new.self c.args.line.now _ c.known.ensures c.answer_on-answered.ensures.step.step
 
 pub returns-clause-step : goal.returns-clause-step
 returns-clause-step g c = answered_whole _ _ _ _ _ _ _ _ _ _ c.new-page.ensures.empty c.in_ok-next.ensures.step c.in_ok-flush.ensures.puts
-
-pub returns-clause-offered : goal.returns-clause-offered
-returns-clause-offered g c = λ a. requests_offered c.args.self.now a c.known.ensures
 
 pub returns-clause-related : goal.returns-clause-related
 returns-clause-related g c =

@@ -4,5 +4,5 @@ use Rattle.roman_session.proofs.session.Session.offered.Goals as goal
 pub returns : goal.returns
 returns c =
     let a = c.self.inside in
-    let asked = ap (λ (s : Situation). s.phase) c.self.view_is ∙ c.requires in
-    subst (λ (s : Situation). HasBits a.mask (has (offers (present_system s) s.here c.args.a))) c.self.view_is (c.self.invariant.offered c.args.a asked)
+    let requested = ap (λ (s : Situation). s.phase) c.self.view_is ∙ c.requires in
+    subst (λ (s : Situation). HasBits a.mask (has (offers (present_system s) s.here c.args.a))) c.self.view_is (c.self.invariant.offered c.args.a requested)

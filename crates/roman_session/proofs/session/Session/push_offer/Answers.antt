@@ -1,4 +1,4 @@
-use Rattle.roman_session.proofs.Common.{◌<◌, sym, ap, ◌∙◌, subst, err_from_is_err_and, name_at, NamedSys, system_of, present_system, fill_behind, fill_more, fill_failed, fill_last, allowed_in_range}
+use Rattle.roman_session.proofs.Common.{fill_stops, ◌<◌, sym, ap, ◌∙◌, subst, name_at, NamedSys, system_of, present_system, fill_behind, fill_more, fill_last, allowed_in_range}
 use Rattle.roman_session.proofs.LineLemmas.{offer_line_is}
 use Rattle.roman_session.proofs.session.Session.push_offer.Goals as goal
 
@@ -12,8 +12,7 @@ returns-in_err-push_report_line-clause-gathers g c =
     let s = c.args.self.now in
     let named = c.action_name.ensures ∙ ap (λ (n : NamedSys). name_at n.environment.actions c.args.a) c.joint.ensures in
     let all = offer_line_is s.parts s.here c.args.a c.offers-mask.result c.action_name.result.now c.known.ensures.parts.system.few named c.requires.1 c.offers-mask.ensures in
-    let p = err_from_is_err_and c.from_residual.result c.from_residual.ensures.1 in
-    rw p.1 (fill_failed _ _ _ _ _ _ _ (fill_behind _ _ _ _ all) c.in_err-push_report_line.ensures.gathers.0, c.in_err-push_report_line.ensures.gathers.1)
+    fill_stops _ _ _ _ _ _ _ _ _ _ c.from_residual.ensures.1 (fill_behind _ _ _ _ all) c.in_err-push_report_line.ensures.gathers
 
 pub returns-clause-gathers : goal.returns-clause-gathers
 returns-clause-gathers g c =

@@ -1,4 +1,4 @@
-use Rattle.roman_session.proofs.Common.{◌<◌, ◌≤◌, sym, arith, err_from_is_err_and, fill_behind, fill_same, fill_more, fill_failed, fill_last}
+use Rattle.roman_session.proofs.Common.{fill_stops, ◌<◌, ◌≤◌, sym, arith, fill_behind, fill_same, fill_more, fill_last}
 use Rattle.roman_session.proofs.LineLemmas.{next_offer, walk_next, walk_over, walk_end, offers_begin, no_offers}
 use Rattle.roman_session.proofs.session.Session.push_offers.Goals as goal
 
@@ -18,8 +18,7 @@ returns-in_err-push_offer-clause-gathers g c =
     let s = c.args.self.now in
     let within : c.loop-a.a < s.parts.environment.env.actions = grind arith in
     let next = next_offer s.parts s.here c.loop-a.a within (sym c.if-not-allows.ensures) in
-    let p = err_from_is_err_and c.from_residual.result c.from_residual.ensures.1 in
-    rw p.1 (fill_failed _ _ _ _ _ _ _ (fill_same _ _ _ _ _ _ next c.loop-a.invariant.filling) c.in_err-push_offer.ensures.gathers.0, c.in_err-push_offer.ensures.gathers.1)
+    fill_stops _ _ _ _ _ _ _ _ _ _ c.from_residual.ensures.1 (fill_same _ _ _ _ _ _ next c.loop-a.invariant.filling) c.in_err-push_offer.ensures.gathers
 
 pub loop-a-preserved : goal.loop-a-preserved
 loop-a-preserved g c = grind (arith, fill_more, fill_same, walk_next)

@@ -1,4 +1,4 @@
-use Rattle.roman_session.proofs.Common.{err_from_is_err_and, fill_behind, fill_more, fill_failed, fill_last}
+use Rattle.roman_session.proofs.Common.{fill_stops, fill_behind, fill_more, fill_last}
 use Rattle.roman_session.proofs.LineLemmas.{report_is}
 use Rattle.roman_session.proofs.session.Session.push_report.Goals as goal
 
@@ -6,16 +6,14 @@ pub returns-in_err-push_lines-clause-gathers : goal.returns-in_err-push_lines-cl
 returns-in_err-push_lines-clause-gathers g c =
     let s = c.args.self.now in
     let begun = fill_behind _ _ _ _ (report_is s.parts s.here _ c.head_lines.ensures) in
-    let p = err_from_is_err_and c.from_residual.result c.from_residual.ensures.1 in
-    rw p.1 (fill_failed _ _ _ _ _ _ _ begun c.in_err-push_lines.ensures.gathers.0, c.in_err-push_lines.ensures.gathers.1)
+    fill_stops _ _ _ _ _ _ _ _ _ _ c.from_residual.ensures.1 begun c.in_err-push_lines.ensures.gathers
 
 pub returns-in_err-push_services-clause-gathers : goal.returns-in_err-push_services-clause-gathers
 returns-in_err-push_services-clause-gathers g c =
     let s = c.args.self.now in
     let begun = fill_behind _ _ _ _ (report_is s.parts s.here _ c.head_lines.ensures) in
     let first = fill_more _ _ _ _ _ _ _ _ begun c.in_ok-push_lines.ensures.gathers in
-    let p = err_from_is_err_and c.from_residual-in_err-push_services.result c.from_residual-in_err-push_services.ensures.1 in
-    rw p.1 (fill_failed _ _ _ _ _ _ _ first c.in_err-push_services.ensures.gathers.0, c.in_err-push_services.ensures.gathers.1)
+    fill_stops _ _ _ _ _ _ _ _ _ _ c.from_residual-in_err-push_services.ensures.1 first c.in_err-push_services.ensures.gathers
 
 pub returns-clause-gathers : goal.returns-clause-gathers
 returns-clause-gathers g c =

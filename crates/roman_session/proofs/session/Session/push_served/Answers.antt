@@ -1,4 +1,4 @@
-use Rattle.roman_session.proofs.Common.{◌≡◌, ◌<◌, ◌≤◌, Some, length, slice_get, sym, ◌∙◌, arith, err_from_is_err_and, fill_behind, fill_same, fill_more, fill_failed, fill_last}
+use Rattle.roman_session.proofs.Common.{fill_stops, ◌≡◌, ◌<◌, ◌≤◌, Some, length, slice_get, sym, ◌∙◌, arith, fill_behind, fill_same, fill_more, fill_last}
 use Rattle.roman_session.proofs.LineLemmas.{next_served, walk_over, walk_end, served_begin}
 use Rattle.roman_session.proofs.session.Session.push_served.Goals as goal
 
@@ -14,8 +14,7 @@ returns-in_err-push_name-clause-gathers g c =
     let within : c.loop-k.k < length parts.seats = grind arith in
     let seated : slice_get parts.seats c.loop-k.k ≡ Some c.seat.result.now = cc in
     let next = next_served parts c.args.mask c.loop-k.k c.seat.result.now within (sym c.has.ensures ∙ c.if-not-has.false) seated in
-    let p = err_from_is_err_and c.from_residual.result c.from_residual.ensures.1 in
-    rw p.1 (fill_failed _ _ _ _ _ _ _ (fill_same _ _ _ _ _ _ next c.loop-k.invariant.filling) c.in_err-push_name.ensures.gathers.0, c.in_err-push_name.ensures.gathers.1)
+    fill_stops _ _ _ _ _ _ _ _ _ _ c.from_residual.ensures.1 (fill_same _ _ _ _ _ _ next c.loop-k.invariant.filling) c.in_err-push_name.ensures.gathers
 
 pub loop-k-preserved : goal.loop-k-preserved
 loop-k-preserved g c =

@@ -1,4 +1,4 @@
-use Rattle.roman_session.proofs.Common.{◌≤◌, length, arith, err_from_is_err_and, fill_behind, fill_same, fill_more, fill_failed, fill_last}
+use Rattle.roman_session.proofs.Common.{fill_stops, ◌≤◌, length, arith, fill_behind, fill_same, fill_more, fill_last}
 use Rattle.roman_session.proofs.LineLemmas.{next_service, no_service}
 use Rattle.roman_session.proofs.session.Session.push_services.Goals as goal
 
@@ -9,8 +9,7 @@ pub returns-in_err-push_report_line-clause-gathers : goal.returns-in_err-push_re
 returns-in_err-push_report_line-clause-gathers g c =
     let s = c.args.self.now in
     let next = next_service s.parts s.here c.loop-k.k c.service_line.result c.service_line.ensures in
-    let p = err_from_is_err_and c.from_residual.result c.from_residual.ensures.1 in
-    rw p.1 (fill_failed _ _ _ _ _ _ _ (fill_same _ _ _ _ _ _ next c.loop-k.invariant.filling) c.in_err-push_report_line.ensures.gathers.0, c.in_err-push_report_line.ensures.gathers.1)
+    fill_stops _ _ _ _ _ _ _ _ _ _ c.from_residual.ensures.1 (fill_same _ _ _ _ _ _ next c.loop-k.invariant.filling) c.in_err-push_report_line.ensures.gathers
 
 pub loop-k-preserved : goal.loop-k-preserved
 loop-k-preserved g c = grind (arith, fill_more, fill_same, next_service)

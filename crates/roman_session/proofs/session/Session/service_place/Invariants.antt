@@ -1,5 +1,4 @@
-use Rattle.roman_session.proofs.Common.{map, seat_name}
-use Rattle.roman_session.proofs.NameLemmas.{IsPast}
+use Rattle.roman_session.proofs.Common.{map, seat_name, IsPast}
 use Rattle.roman_session.proofs.session.Session.service_place.Given as goal
 
 -- the services so far have other names

@@ -1,13 +1,12 @@
-use Rattle.roman_session.proofs.Common.{ℕ, ◌<◌, List, Option, IfSome, length, slice_get, sym, ap, ◌∙◌, subst, arith, Beh, NamedSys, IsSeatBehaviour, behaves, present_system, FindsPlace, IfOk-weaker, seat_in}
+use Rattle.roman_session.proofs.Common.{ℕ, ◌<◌, List, Option, IfSome, length, slice_get, sym, ap, ◌∙◌, subst, arith, Beh, NamedSys, IsSeatBehaviour, behaves, present_system, FindsPlace, IfOk-weaker, get_in, states_named}
 use Rattle.roman_model.specs.System.{Seat}
-use Rattle.roman_session.proofs.SituationLemmas.{states_named}
 use Rattle.roman_session.proofs.session.Session.state_place.Goals as goal
 
 pub place-requires : goal.place-requires
 place-requires c =
     let is = c.known.ensures in
     let of = behaves _ _ _ is.parts (subst (λ (n : NamedSys). IsSeatBehaviour n c.args.k c.behaviour.result.now) c.joint.ensures c.behaviour.ensures) in
-    let seat = is.parts.system.seats of.seat (seat_in (present_system c.args.self.now).seats c.args.k of.seat of.seated) in
+    let seat = is.parts.system.seats of.seat (get_in (present_system c.args.self.now).seats c.args.k of.seat of.seated) in
     omega (arith, seat.states.1, ap (λ (b : Beh). b.states) of.is, c.states.ensures.count, ap length c.states.ensures.names)
 
 pub returns-clause-finds : goal.returns-clause-finds

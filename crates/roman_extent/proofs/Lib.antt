@@ -1,3 +1,0 @@
-pub mod Common
-pub mod DigitLemmas
-pub mod ExtentLemmas

@@ -1,4 +1,0 @@
-use Rattle.roman_repair.proofs.asked_band.AskedBand.ask_all.Goals as goal
-
-pub returns-then-is_some-clause-known : goal.returns-then-is_some-clause-known
-returns-then-is_some-clause-known c A lanes gone known = c.nothing.ensures.known A lanes gone

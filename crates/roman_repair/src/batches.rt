@@ -1,0 +1,72 @@
+//! Replays batches. A batch is a run of waiting entries of one row with one reason. An entry is
+//! kept where the entries kept before it justify it.
+ghost use Rattle.std.specs.Prelude.{◌≡◌, []};
+ghost use Rattle.roman_order.specs.Batches.{entries_at};
+ghost use Rattle.roman_repair.specs.Judging.{CanReplayBatch, HasJudgedFront, Replays};
+
+use crate::band_probe::BandProbe;
+use crate::lanes::first_alike;
+use roman_io::Steps;
+use roman_order::{Batch, Order};
+use roman_rules::Rules;
+use std::sync::ledger::Ledger;
+
+/// Judges the first entries of the batch that have one answer, and returns the remaining lanes. Lists
+/// those that are known to be justified. If the first one isn't, probes the row, one seat alone where
+/// only that one can keep an entry from being justified, and lists or drops the entries that have the
+/// answer of the first. Once an entry is dropped, all seats must be probed.
+fn keep_front<J: Rules, L: Ledger>(
+    joint: &J,
+    order: &mut Order,
+    probe: &mut BandProbe,
+    batch: Batch,
+    steps: &mut Steps<L>,
+) -> u64
+    requires { let lanes = J.lanes joint.now in CanReplayBatch (J.arena joint.now) lanes lanes
+        (entries_at lanes) order.old probe.old batch }
+    ensures { HasJudgedFront (J.arena joint.now)
+        (J.lanes joint.now) batch result order.old order.new probe.old probe.new steps.old steps.new }
+{
+    joint.known(); // allowed actions are actions of the system, a row has 1 to 64 lanes
+    order.known(); // a row has 1 to 64 lanes
+    let known = probe.known_at(batch.row, batch.reason);
+    let (front, rest, holds) = first_alike(batch.lanes, known);
+    if holds {
+        order.push_lanes(batch.row, front, batch.reason);
+        return rest;
+    }
+    let held = probe.probe_batch(joint, order.words(), batch, steps);
+    let (front, rest, holds) = first_alike(batch.lanes, held);
+    if holds {
+        order.push_lanes(batch.row, front, batch.reason);
+        return rest;
+    }
+    probe.probe_all();
+    rest
+}
+
+/// Replays the entries of the batch, in rising order of the lanes, and appends those that it keeps
+/// to the list. What is known of the row stays valid, so an answer of the row serves several
+/// entries. The number of steps is at most the number of readings of all the entries.
+pub(crate) fn keep_lanes<J: Rules, L: Ledger>(
+    joint: &J,
+    order: &mut Order,
+    probe: &mut BandProbe,
+    batch: Batch,
+    steps: &mut Steps<L>,
+)
+    requires { let lanes = J.lanes joint.now in CanReplayBatch (J.arena joint.now) lanes lanes
+        (entries_at lanes) order.old probe.old batch }
+    ensures replayed { Replays (J.arena joint.now) (J.lanes joint.now) (entries_at (J.lanes joint.now) batch) []
+        order.old.list order.new.list probe.old probe.new steps.old steps.new }
+    ensures rest { order.new ≡ record order.old { list = order.new.list } }
+{
+    let mut left = batch.lanes;
+    'left: while left != 0 {
+        let rest = Batch {
+            lanes: left,
+            ..batch
+        };
+        left = keep_front(joint, order, probe, rest, steps);
+    }
+}
