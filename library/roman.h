@@ -1,7 +1,7 @@
 /* libroman: sessions of roman within a process.
 
-   A program puts the texts of documents on a shelf, opens a session of one of them, and asks it line by line.
-   Each line and each reply is that of `roman run`, byte for byte; roman(1) lists them.
+   A program puts the texts of documents on a shelf, opens a session of one of them, and passes it lines. Each line
+   and each reply is that of `roman run`, byte for byte; roman(1) lists them.
 
        roman_shelf shelf = ROMAN_NONE;
        roman_session session = ROMAN_NONE;
@@ -13,18 +13,18 @@
        roman_clear(&shelf);
 
    Ownership. The library copies what it is passed and keeps no pointer to it. A handle owns its memory until
-   roman_close or roman_clear returns it. Call them also after a call that failed. A session needs its shelf
-   only while it is opened.
+   roman_close or roman_clear returns it. Call them also after a call that failed. A session needs its shelf only
+   during roman_open.
 
    Rules for callers. The library is proved under these rules and checks none of them.
-   - A handle begins as ROMAN_NONE, and only these functions write to it. Move it if you like; after a move only
-     the new place is a handle. Never copy one.
-   - A pointer is never null, even with a length of 0. It points to at least that many bytes. During a call
-     nothing else writes to them, and `into` overlaps none of the others. The handles of one call are two.
-   - One call at a time uses a handle. Any thread may make it, and calls on other handles may run beside it.
-   - malloc, realloc and free are those of C. They may fail: then the call returns ROMAN_MEMORY.
+   - A handle begins as ROMAN_NONE, and only these functions write to it. You may move it; after a move only the new
+     place is a handle. Never copy it.
+   - A pointer is never null, even with a length of 0. It points to at least that many bytes. During a call nothing
+     else writes to them, and `into` overlaps none of the others. The two handles of a call are different.
+   - Only one call at a time may use a handle. Any thread may make it, and calls on other handles may run beside it.
+   - malloc, realloc and free are those of C. If memory runs out, the call returns ROMAN_MEMORY.
 
-   A handle that is empty, closed or of the other kind is never an error of memory: each call refuses it by a
+   A handle that is empty, closed or of the other kind never causes an error of memory: each call refuses it by a
    status. Bytes may have any value, and lines any length. */
 #ifndef ROMAN_H
 #define ROMAN_H
@@ -46,15 +46,17 @@ typedef struct { void *at; bool full; } roman_session;
 /* The empty handle. */
 #define ROMAN_NONE { 0, 0 }
 
-/* What the calls return. From 101 on it is a refusal of a session: its reply is the line that says so, and the
-   session is as it was. */
+/* The statuses that calls return. One from 101 on is a refusal by the session: the reply is the line of the refusal,
+   and the session is as it was. */
 enum roman_status {
     ROMAN_OK = 0,
     ROMAN_QUIT = 1,             /* the line was `quit`, and the reply is `bye` */
+    ROMAN_NO = 1,               /* roman_synth: nothing can be composed; roman_check: rejected */
     ROMAN_CLOSED = 2,           /* no session is open, or the handle isn't a shelf */
     ROMAN_REFUSED = 3,          /* the document is refused */
     ROMAN_LIMIT = 4,            /* the document's system exceeds its limit */
-    ROMAN_MISSING = 5,          /* the shelf lacks a text that is named */
+    ROMAN_MISSING = 5,          /* a text that is named isn't on the shelf */
+    ROMAN_TOO_LONG = 8,         /* roman_check: the certificate is too long */
     ROMAN_MEMORY = 9,           /* out of memory */
     ROMAN_NOT_UTF8 = 10,        /* a name isn't UTF-8 */
     ROMAN_ERROR_LINE = 101,     /* error line */
@@ -73,13 +75,13 @@ enum roman_status {
     ROMAN_ERROR_RELATED = 114   /* error related */
 };
 
-/* Adds a text to a shelf. Of two texts with one name the later one counts. Returns ROMAN_OK, or ROMAN_CLOSED if
-   the handle is a session, ROMAN_MEMORY or ROMAN_NOT_UTF8; the shelf then has the texts that it had. */
+/* Adds a text to a shelf. Of two texts with one name the later one counts. Returns ROMAN_OK. On
+   ROMAN_CLOSED (the handle is a session), ROMAN_MEMORY and ROMAN_NOT_UTF8 the shelf is as it was. */
 uint32_t roman_add(roman_shelf *shelf, const uint8_t *name, size_t name_len, const uint8_t *text, size_t text_len);
 
 /* Opens a session of the system document of that name on the shelf, and closes the session that was open. The
-   shelf also has the part files that the document names. Returns ROMAN_OK, or else, with no session open:
-   ROMAN_REFUSED or ROMAN_LIMIT, and the reply is the line that says why; ROMAN_MISSING; ROMAN_MEMORY;
+   shelf also has the part files that the document names. Returns ROMAN_OK. On any other status no session is open.
+   These are ROMAN_REFUSED and ROMAN_LIMIT, with the reason as the reply, ROMAN_MISSING, ROMAN_MEMORY and
    ROMAN_NOT_UTF8. */
 uint32_t roman_open(roman_session *session, roman_shelf *shelf, const uint8_t *name, size_t name_len);
 
@@ -89,16 +91,31 @@ uint32_t roman_open(roman_session *session, roman_shelf *shelf, const uint8_t *n
 uint32_t roman_answer(roman_session *session, const uint8_t *line, size_t line_len);
 
 /* Copies the last reply, from byte `from` on, to `into`, as many bytes as it has room for. Returns the length of
-   the whole reply, which is 0 if there is none. It ends with a newline, and not with a zero. */
+   the whole reply, which is 0 if there is none. The reply ends with a newline, and has no zero after it. */
 size_t roman_reply(roman_session *session, size_t from, uint8_t *into, size_t room);
+
+/* ---- Without a session
+
+   Both calls close the session that was open. The reply is what the program writes for the same texts, byte for byte,
+   and the result is its exit status. ROMAN_REFUSED, ROMAN_LIMIT, ROMAN_MISSING and ROMAN_NOT_UTF8 mean the same as in
+   roman_open. After ROMAN_MEMORY the reply is the beginning of the text, or empty. */
+
+/* Reports on the system document of that name on the shelf, as `roman synth` does. Returns ROMAN_OK if its target can be
+   composed, and ROMAN_NO if it can't. */
+uint32_t roman_synth(roman_session *session, roman_shelf *shelf, const uint8_t *name, size_t name_len);
+
+/* Checks the certificate of that name on the shelf for the system document of that name, as `roman check` does. Returns
+   ROMAN_OK if it is right and complete, ROMAN_NO if it is rejected, or ROMAN_TOO_LONG. */
+uint32_t roman_check(roman_session *session, roman_shelf *shelf, const uint8_t *name, size_t name_len,
+                     const uint8_t *certificate, size_t certificate_len);
 
 /* ---- Events by numbers
 
    Actions, states and behaviours are numbered from 0 in the order of the document, and services by their places.
    Each call answers the line that names what has these numbers, as roman_answer does, with the same statuses and
-   the same reply. A number that nothing has counts as an unknown name: ROMAN_ERROR_NAME. */
+   the same reply. An unused number counts as an unknown name: ROMAN_ERROR_NAME. */
 
-/* do ACTION. If it is accepted, roman_offers has the services that are offered. */
+/* do ACTION. If it is accepted, roman_offers returns the offered services. */
 uint32_t roman_request(roman_session *session, uint32_t action);
 
 /* use SERVICE */
@@ -131,8 +148,8 @@ uint32_t roman_jump_env(roman_session *session, uint32_t env);
 /* No number. */
 #define ROMAN_NO_NUMBER UINT32_MAX
 
-/* What a number is of. The states of a service or of a behaviour are those of number `of`; for all other kinds
-   `of` counts for nothing. */
+/* The kinds of numbers. The states of a service or of a behaviour are those of number `of`; all other kinds ignore
+   `of`. */
 enum roman_kind {
     ROMAN_ACTION = 0,
     ROMAN_ENV_STATE = 1,

@@ -39,6 +39,17 @@ class Owner {
 
 }  // namespace detail
 
+// A reply and its status: ROMAN_OK, ROMAN_QUIT, ROMAN_NO or a refusal.
+struct Reply {
+    std::uint32_t status;
+    std::string text;
+    explicit operator bool() const { return status == ROMAN_OK; }
+};
+
+class Shelf;
+Reply synth(Shelf &shelf, std::string_view name);
+Reply check(Shelf &shelf, std::string_view name, std::string_view certificate);
+
 // A document that can't be opened. what() is the program's line, if there is one.
 class Refused : public std::runtime_error {
   public:
@@ -58,13 +69,8 @@ class Shelf : public detail::Owner<roman_shelf, roman_clear> {
 
   private:
     friend class Session;
-};
-
-// A reply and its status: ROMAN_OK, ROMAN_QUIT or a refusal.
-struct Reply {
-    std::uint32_t status;
-    std::string text;
-    explicit operator bool() const { return status == ROMAN_OK; }
+    friend Reply synth(Shelf &shelf, std::string_view name);
+    friend Reply check(Shelf &shelf, std::string_view name, std::string_view certificate);
 };
 
 // A session of a document.
@@ -72,11 +78,7 @@ class Session : public detail::Owner<roman_session, roman_close> {
   public:
     // Opens the document of that name on the shelf. Throws Refused or std::bad_alloc.
     Session(Shelf &shelf, std::string_view name) {
-        const auto status = roman_open(&handle_, &shelf.handle_, detail::bytes(name), name.size());
-        if (status == ROMAN_MEMORY) throw std::bad_alloc();
-        if (status == ROMAN_MISSING) throw Refused(status, "a text is missing");
-        if (status == ROMAN_NOT_UTF8) throw Refused(status, "a name isn't UTF-8");
-        if (status != ROMAN_OK) throw Refused(status, reply());
+        succeed(roman_open(&handle_, &shelf.handle_, detail::bytes(name), name.size()));
     }
 
     // Answers a line. Throws std::bad_alloc, and std::logic_error if the session was moved elsewhere.
@@ -88,6 +90,20 @@ class Session : public detail::Owner<roman_session, roman_close> {
     }
 
   private:
+    friend Reply synth(Shelf &shelf, std::string_view name);
+    friend Reply check(Shelf &shelf, std::string_view name, std::string_view certificate);
+
+    Session() = default;
+
+    // Throws the error of a call on a document, if it has failed.
+    void succeed(std::uint32_t status) {
+        if (status == ROMAN_MEMORY) throw std::bad_alloc();
+        if (status == ROMAN_MISSING) throw Refused(status, "a text is missing");
+        if (status == ROMAN_NOT_UTF8) throw Refused(status, "a name isn't UTF-8");
+        if (status == ROMAN_TOO_LONG) throw Refused(status, "the certificate is too long");
+        if (status == ROMAN_REFUSED || status == ROMAN_LIMIT) throw Refused(status, reply());
+    }
+
     std::string reply() {
         std::uint8_t first[256];
         const auto length = roman_reply(&handle_, 0, first, sizeof first);
@@ -98,6 +114,25 @@ class Session : public detail::Owner<roman_session, roman_close> {
         return text;
     }
 };
+
+// The report on the document of that name, as `roman synth` writes it, with ROMAN_OK or ROMAN_NO. Throws Refused or
+// std::bad_alloc.
+inline Reply synth(Shelf &shelf, std::string_view name) {
+    Session none;
+    const auto status = roman_synth(&none.handle_, &shelf.handle_, detail::bytes(name), name.size());
+    none.succeed(status);
+    return {status, none.reply()};
+}
+
+// The verdict on the certificate of that name, as `roman check` writes it, with ROMAN_OK or ROMAN_NO. Throws Refused or
+// std::bad_alloc.
+inline Reply check(Shelf &shelf, std::string_view name, std::string_view certificate) {
+    Session none;
+    const auto status = roman_check(&none.handle_, &shelf.handle_, detail::bytes(name), name.size(),
+                                    detail::bytes(certificate), certificate.size());
+    none.succeed(status);
+    return {status, none.reply()};
+}
 
 }  // namespace roman
 

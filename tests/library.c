@@ -192,6 +192,27 @@ static void check_numbers(void) {
     roman_close(&session);
 }
 
+/* Reports and verdicts, without a session. */
+static void check_jobs(void) {
+    roman_session session = ROMAN_NONE;
+    roman_shelf shelf = ROMAN_NONE;
+    CHECK(roman_synth(&session, &shelf, BYTES("lamp")) == ROMAN_MISSING && says(&session, ""));
+    CHECK(add(&shelf, "lamp", document) == ROMAN_OK && add(&shelf, "other", "{}") == ROMAN_OK);
+    CHECK(begin(&session, &shelf, "lamp") == ROMAN_OK);
+    CHECK(roman_synth(&session, &shelf, BYTES("lamp")) == ROMAN_OK);
+    CHECK(strstr(reply(&session), "\nanswer composition\n") != NULL && answer(&session, "report") == ROMAN_CLOSED);
+    CHECK(roman_synth(&session, &shelf, BYTES("other")) == ROMAN_REFUSED && strncmp(reply(&session), "refused other ", 14) == 0);
+    CHECK(roman_synth(&session, &shelf, (const uint8_t *)"\xff", 1) == ROMAN_NOT_UTF8);
+    CHECK(roman_check(&session, &shelf, BYTES("lamp"), BYTES("none")) == ROMAN_MISSING && says(&session, ""));
+    CHECK(add(&shelf, "cert", "roman-order 1\npairs 4\n1 f\n2 1\nend\n") == ROMAN_OK);
+    CHECK(roman_check(&session, &shelf, BYTES("lamp"), BYTES("cert")) == ROMAN_OK);
+    CHECK(says(&session, "greatest 2\nanswer composition\n"));
+    CHECK(roman_check(&session, &shelf, BYTES("lamp"), BYTES("other")) == ROMAN_NO && says(&session, "rejected 1 form\n"));
+    CHECK(roman_check(&session, &shelf, BYTES("lamp"), (const uint8_t *)"\xff", 1) == ROMAN_NOT_UTF8);
+    roman_close(&session);
+    roman_clear(&shelf);
+}
+
 /* A session may go from thread to thread. */
 static void *ask_elsewhere(void *session) {
     CHECK(answer(session, "do on") == ROMAN_OK && says(session, "offer l1\n"));
@@ -275,6 +296,7 @@ int main(int count, char **words) {
     check_handles();
     check_slices();
     check_numbers();
+    check_jobs();
     check_threads();
     check_memory();
     puts("all as roman.h says");

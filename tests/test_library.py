@@ -2,6 +2,7 @@
 wrong use is refused by a status, and that no memory is lost. ROMAN_ARCHIVE names the archive of `rt lib`; without
 it the one of this repository is taken, and built first if it is missing or older than a source."""
 
+import json
 import os
 import re
 import shlex
@@ -13,7 +14,9 @@ from typing import Any
 
 import pytest
 
-from . import TOP
+from roman_client import library
+
+from . import PROGRAM, TOP
 
 LIBRARY = TOP / "library"
 LAMP = TOP / "samples" / "lamp.json"
@@ -30,6 +33,11 @@ def run(*words: Any, status: int = 0, **options: Any) -> "subprocess.CompletedPr
     done = subprocess.run([str(word) for word in words], capture_output=True, check=False, **options)
     assert done.returncode == status, done.stdout[-2000:] + done.stderr[-2000:]
     return done
+
+
+def run_any(*words: Any) -> "subprocess.CompletedProcess[bytes]":
+    """Ends with any status."""
+    return subprocess.run([str(word) for word in words], capture_output=True, check=False, timeout=600, cwd=TOP)
 
 
 def archive() -> Path:
@@ -191,6 +199,24 @@ def tried(built: Path, into: Path, *words: str) -> Path:
 def test_every_call_in_every_state_and_each_allocation_failing(built: Path, tmp_path: Path) -> None:
     said = run(tried(built, tmp_path / "checked", *CHECKED), LAMP).stdout
     assert said == b"all as roman.h says\n"
+
+
+def test_reports_and_verdicts_are_those_of_the_program(built: Path, tmp_path: Path) -> None:
+    """The same texts and statuses, of each sample, of its certificate, of one that lacks an entry, and of documents
+    that are refused or past their limit."""
+    shared = built / "lib" / "libroman.so"
+    small = json.loads(LAMP.read_text(encoding="utf-8")) | {"limit": 7}
+    (tmp_path / "small.json").write_text(json.dumps(small), encoding="utf-8")
+    refused = [str(tmp_path / "small.json"), "samples/home.session", "samples/gone.json"]
+    for document in [*(f"samples/{sample}.json" for sample in SAMPLES), *refused]:
+        said = run_any(PROGRAM, "synth", document)
+        assert library.synth(document, shared, TOP) == (said.returncode, said.stdout.decode()), document
+        entries = run_any(PROGRAM, "certify", document).stdout.splitlines(keepends=True)
+        for lines in (entries, entries[:-2] + entries[-1:], [b"\n"]):
+            (tmp_path / "certificate").write_bytes(b"".join(lines))
+            said = run_any(PROGRAM, "check", document, tmp_path / "certificate")
+            told = library.check(document, tmp_path / "certificate", shared, TOP)
+            assert told == (said.returncode, said.stdout.decode()), document
 
 
 def test_no_memory_is_lost_or_misused(built: Path, tmp_path: Path) -> None:

@@ -62,6 +62,8 @@ static uint32_t call_one(uint8_t call, roman_session *session, roman_shelf *shel
     case 15: text = until(0, &length); return roman_add(shelf, (const uint8_t *)"p", 1, text, length);
     case 16: roman_clear(shelf); return 0;
     case 17: return roman_add((roman_shelf *)session, (const uint8_t *)"p", 1, (const uint8_t *)"", 0);
+    case 18: return roman_synth(session, shelf, (const uint8_t *)"s", 1);
+    case 19: return roman_check(session, shelf, (const uint8_t *)"s", 1, (const uint8_t *)"p", 1);
     default: text = until('\n', &length); return roman_answer(session, text, length);
     }
 }

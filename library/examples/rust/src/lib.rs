@@ -25,13 +25,13 @@ pub const OK: u32 = 0;
 pub const QUIT: u32 = 1;
 const MEMORY: u32 = 9;
 
-/// Why a document isn't opened or a line isn't answered: a status of `roman.h`, and the program's line if there
-/// is one.
+/// The reason why a document can't be opened or a line can't be answered: a status of `roman.h`, and the program's
+/// line if there is one.
 #[derive(Debug)]
 pub struct Error {
     /// The status.
     pub status: u32,
-    /// The line that says why, or nothing.
+    /// The program's line with the reason, or nothing.
     pub line: String,
 }
 
