@@ -1,7 +1,7 @@
-"""What a dispatcher does, without a session's transport, threads or tasks.
+"""The steps of a dispatcher, without transport, threads or tasks.
 
-As the session in `protocol`, it is written as generators. They yield what is to be done, and are sent its result;
-`Dispatcher` and `aio.Dispatcher` do it.
+Like those of the session in `protocol`, they are generators. They yield effects, which `Dispatcher` and
+`aio.Dispatcher` perform, and receive the results.
 """
 
 from __future__ import annotations
@@ -48,29 +48,30 @@ from .store import (
     ChangeMade,
     Entry,
     Kept,
-    KeyKept,
+    KeyStored,
     Store,
     Stored,
     result_of,
+    storable,
 )
 
 LOG = logging.getLogger("roman_client.dispatcher")
 
 KEYS = 1000
-"""Of how many requests the keys are kept."""
+"""The most keys whose values are stored."""
 
 LONGEST_KEY = 256
 """The most bytes of a key."""
 
 BATCH = 256
-"""How many posted changes are made before a request gets its turn, and are written in one transaction."""
+"""The most posted changes that are made before a request gets its turn, and that are written in one transaction."""
 
 RESTARTS = 8
-"""How often the program is started again for one thing."""
+"""How often the program is restarted for one step."""
 
 
 class AnyDevice(Protocol):
-    """What a dispatcher looks at of a device itself."""
+    """The attributes of a device that a dispatcher reads itself."""
 
     timeout: float | None
     repeatable: bool
@@ -80,27 +81,40 @@ class AnyDevice(Protocol):
 DeviceKind = TypeVar("DeviceKind", bound=AnyDevice)
 
 
+Settle = Callable[[Any, BaseException | None], None]
+"""Receives a value, or an error."""
+
+
 @dataclass(frozen=True)
 class Posted:
-    """A change that waits for its turn. `settle` is told its value, or its error."""
+    """A change that waits for its turn. `settle` receives its value, or its error."""
 
     event: Event[Any]
     cause: Frozen
     source: str | None
-    settle: Callable[[Any, BaseException | None], None]
+    settle: Settle
 
 
-class Asking(NamedTuple):
-    """A request: the action, its key, who made it, and the number of its first call."""
+class Ahead(NamedTuple):
+    """How a request may share a sync with the next one. If `is_awaited` returns true at its end, that end is written
+    with the call of the next request. `settle` receives its `Done` when it is written."""
+
+    settle: Settle
+    is_awaited: Callable[[], bool]
+
+
+class NewRequest(NamedTuple):
+    """A request: the action, its key, its sender, the number of its first call, and how it may share a sync."""
 
     action: str
     key: str | None
     source: str | None
     number: int
+    ahead: Ahead | None
 
 
 class Dispatching(Generic[DeviceKind]):
-    """What a dispatcher knows and does. Its generators are for one at a time."""
+    """The state and the steps of a dispatcher. One generator runs at a time."""
 
     def __init__(self, devices: Mapping[str, DeviceKind], asks_back: bool, store: Store | None) -> None:
         self.devices: dict[str, DeviceKind] = dict(devices)
@@ -117,6 +131,7 @@ class Dispatching(Generic[DeviceKind]):
         self._torn = False
         self._failures: list[Failure] = []
         self._unwritten: list[Entry] = []
+        self._owed: list[tuple[Done, Settle]] = []
 
     @property
     def failed(self) -> frozenset[str]:
@@ -126,12 +141,13 @@ class Dispatching(Generic[DeviceKind]):
     # Turns.
 
     def turn(self, steps: Callable[[], Steps[Value]]) -> Steps[Value]:
-        """Makes the changes that were posted, and then takes the steps, from between two requests to between two
-        requests. If they are interrupted in the middle, the next turn begins with putting that right."""
+        """Makes the posted changes, and then takes the steps. No request is open before or after a turn. If the steps
+        are interrupted, the next turn begins with `_mend`."""
         if self._torn:
             yield from self._mend()
         try:
-            yield from self.drain()
+            if self.inbox:
+                yield from self.drain()
             return (yield from steps())
         except GeneratorExit:
             raise
@@ -143,7 +159,7 @@ class Dispatching(Generic[DeviceKind]):
             raise
 
     def drain(self) -> Steps[None]:
-        """Makes the changes that are posted now, in their order, and writes them in one transaction."""
+        """Makes the posted changes in their order, and writes them in one transaction."""
         made: list[tuple[Posted, Any, Notice | None]] = []
         interrupt: BaseException | None = None
         while interrupt is None and self.inbox and len(made) < BATCH:
@@ -173,7 +189,7 @@ class Dispatching(Generic[DeviceKind]):
             raise interrupt
 
     def _written(self) -> Steps[StoreFailed | None]:
-        """Writes what isn't written yet. Gives the error if that can't be done now."""
+        """Writes what isn't written yet. Returns the error if this fails."""
         try:
             yield from self._write()
         except StoreFailed as error:
@@ -181,11 +197,14 @@ class Dispatching(Generic[DeviceKind]):
         return None
 
     def _mend(self) -> Steps[None]:
-        """Brings session and dispatcher together after an interruption. With a store a device is asked about a call
-        that was under way; without one its service is frozen."""
+        """Restores the session after an interruption. With a store another program continues from the position, and a
+        device is asked about the call that was under way. Without a store the service of that call is frozen."""
         call = self.under_way
-        if call is not None and self._store is not None:
-            yield from self._recover(call)
+        if self._store is not None:
+            self._open = None if call is None else call.request
+            yield from self._restore_surely()
+            if call is not None:
+                yield from self._recover(call)
         elif call is not None:
             yield from self._drop_and_freeze(call.service, Frozen.FAILED)
         elif self._open is not None:
@@ -200,8 +219,8 @@ class Dispatching(Generic[DeviceKind]):
     # The beginning.
 
     def begin(self, document: Document | None) -> Steps[None]:
-        """Takes the session as it stands, or goes on from the store. The document is that of the session, None if it
-        couldn't be read."""
+        """Begins with the present session, or continues from the store. The document is that of the session, None if
+        it couldn't be read."""
         self.document = document
         store = self._store
         if store is not None and store.stored is not None:
@@ -216,14 +235,14 @@ class Dispatching(Generic[DeviceKind]):
             yield Begin(self._stored())
 
     def _stored(self) -> Stored:
-        """All that a new store has."""
+        """The content of a new store."""
         if self.document is None:
             raise DocumentError("the document can't be read from here, which a store needs")
         failures = tuple(self._failures)
         return Stored(self.document, self.position, self.under_way, self._request, failures, dict(self.keys))
 
     def _go_on(self, store: Store, stored: Stored) -> Steps[None]:
-        """Goes on from the store, and finds out what became of a call that was under way."""
+        """Continues from the store, and finds out the result of a call that was under way."""
         self._check_document(store, stored.document)
         self.position, self.keys = stored.position, dict(stored.keys)
         self.under_way, self._request, self._failures = stored.under_way, stored.request, list(stored.failures)
@@ -247,20 +266,27 @@ class Dispatching(Generic[DeviceKind]):
 
     # Requests.
 
-    def request(self, action: str, key: str | None, source: str | None = None) -> Steps[Done]:
-        """Has an action served."""
-        yield from self._catch_up()
+    def request(
+        self, action: str, key: str | None, source: str | None = None, ahead: Ahead | None = None
+    ) -> Steps[Done]:
+        """Serves an action. With `ahead` its end may still be unwritten when this returns."""
+        if self._unwritten and not self._owed:
+            yield from self._write()
         kept = self._look_up(action, key)
+        if kept is not None:
+            yield from self._catch_up()
         if isinstance(kept, Done):
             return kept
         if kept is not None:
             raise InDoubt(f"{kept.service} was asked for {kept.request}, and may have done it")
         self._failures = []
-        asking = Asking(action, key, source, self.position.calls + 1)
+        asking = NewRequest(action, key, source, self.position.calls + 1, ahead)
         try:
-            yield from self._ask_back()
+            if self._asks_back:
+                yield from self._ask_back()
             while True:
-                yield from self.drain()
+                if self.inbox:
+                    yield from self.drain()
                 result = yield from self._attempt(asking)
                 if isinstance(result, Done):
                     break
@@ -271,28 +297,45 @@ class Dispatching(Generic[DeviceKind]):
             if error.done is not None:
                 yield from self._tell_served(error.done)
             raise
-        yield from self._tell_served(result)
+        if not self.is_owed(result):
+            yield from self._tell_served(result)
         return result
 
+    def is_owed(self, done: Done) -> bool:
+        """Whether a request was served and isn't written yet."""
+        return any(each is done for each, _ in self._owed)
+
+    @property
+    def owes(self) -> bool:
+        """Whether some request was served and isn't written yet."""
+        return bool(self._owed)
+
+    def flush(self) -> Steps[None]:
+        """Writes the ends of requests that were served and aren't written yet."""
+        if self._owed:
+            yield from self._written()
+
     def _look_up(self, action: str, key: str | None) -> Kept | None:
-        """What is kept for a key. Raises `KeyTaken` if it is that of another action, and ValueError if it is too
-        long."""
+        """The value that is stored for a key. Raises `KeyTaken` if the key was used for another action, and ValueError
+        if it is too long or can't be stored."""
         if key is None:
             return None
         if len(key.encode(errors="surrogatepass")) > LONGEST_KEY:
             raise ValueError(f"a key has at most {LONGEST_KEY} bytes")
+        if storable(key) != key:
+            raise ValueError("a key has no letter that UTF-8 can't encode")
         kept = self.keys.get(key)
         if kept is not None and (kept.action if isinstance(kept, Done) else kept.request) != action:
             raise KeyTaken(f"the key {key} is that of another request")
         return kept
 
     def _tell_served(self, done: Done) -> Steps[None]:
-        """Tells that a request was served."""
+        """Logs and notifies that a request was served."""
         LOG.info("%s served %s", done.service, done.action)
         yield Notify(done)
 
-    def _attempt(self, asking: Asking) -> Steps[Done | None]:
-        """Gives the request to one service. None if that failed."""
+    def _attempt(self, asking: NewRequest) -> Steps[Done | None]:
+        """Gives the request to one service. Returns None if this fails."""
         chosen = yield from self._choose((yield from self._offered(asking.action)))
         call = Call(chosen.service, self._delegated(asking.action), asking.action, self.position.calls + 1, asking.key)
         try:
@@ -311,7 +354,7 @@ class Dispatching(Generic[DeviceKind]):
                 yield from self._fail(Failure(call.service, call.request, None, answer))
                 return None
             try:
-                return (yield from self._answer(call, outcome))
+                return (yield from self._answer(call, outcome, asking.ahead))
             except SessionOver as over:
                 over.outcome = outcome
                 raise
@@ -320,11 +363,12 @@ class Dispatching(Generic[DeviceKind]):
             raise
 
     def _begin_call(self, begun: CallBegun) -> Steps[None]:
-        """The call is on the disk before the device is asked."""
+        """Writes the call to the disk before the device is asked."""
         call = begun.call
-        self.position = replace(self.position, calls=call.number)
+        self.position = self.position._replace(calls=call.number)
         try:
             yield from self._write(begun)
+            yield from self._surely(protocol.use(call.service))
         except StoreFailed:
             self._unwritten.remove(begun)
             yield from self._drop()
@@ -333,13 +377,12 @@ class Dispatching(Generic[DeviceKind]):
             # It may be written, and the device won't be asked.
             self._unwritten.append(CallEnded(call.number, result_of(NOT_DONE)))
             raise
-        yield from self._surely(protocol.use(call.service))
         self.under_way, self._request = call, begun.request
         yield Notify(Asked(call))
 
     def _judge_error(self, call: Call, error: Exception) -> Steps[Done | None]:
-        """A device raised an error. One whose lateness is doubtful is asked whether it did the call, before another
-        one may do it."""
+        """Handles an error of a device. With `late_is_doubt` a late device is asked whether it did the call, before
+        another device is asked."""
         device = self.devices[call.service]
         if not (device.late_is_doubt and isinstance(error, (DeviceTimeout, DeviceLost))):
             yield from self._fail(Failure(call.service, call.request, error, None))
@@ -358,7 +401,7 @@ class Dispatching(Generic[DeviceKind]):
         raise InDoubt(f"{call.service} was asked for {call.request}, and may have done it: {error}")
 
     def _doubt(self, call: Call, error: BaseException) -> Steps[None]:
-        """Nobody knows whether a call was done. Its service is frozen."""
+        """Freezes the service of a call that may have been done."""
         LOG.warning("%s is in doubt: %s was asked, and %r", call.request, call.service, error)
         yield from self._drop_and_freeze(call.service, Frozen.IN_DOUBT)
         entries = [CallEnded(call.number, IN_DOUBT, error=str(error) or type(error).__name__), *self._keep(call, call)]
@@ -368,8 +411,8 @@ class Dispatching(Generic[DeviceKind]):
             LOG.warning("it is written later that %s is in doubt: %s", call.request, trouble)
         yield Notify(Failure(call.service, call.request, error, None))
 
-    def _answer(self, call: Call, outcome: Outcome) -> Steps[Done | None]:
-        """A device has answered. None if that is impossible."""
+    def _answer(self, call: Call, outcome: Outcome, ahead: Ahead | None = None) -> Steps[Done | None]:
+        """Moves the session by the answer of a device. Returns None if the answer is impossible."""
         try:
             move = yield from self._surely(protocol.saw(*outcome))
         except DocumentError:
@@ -378,20 +421,23 @@ class Dispatching(Generic[DeviceKind]):
             yield from self._fail(Failure(call.service, call.request, None, outcome))
             return None
         done = self._served(call, outcome, move)
-        ended = CallEnded(call.number, SERVED, outcome, done.target)
+        entries = (CallEnded(call.number, SERVED, outcome, done.target), *self._keep(call, done))
+        if ahead is not None and self._store is not None and ahead.is_awaited():
+            self._unwritten += entries
+            self._owed.append((done, ahead.settle))
+            return done
         try:
-            yield from self._write(ended, *self._keep(call, done))
+            yield from self._write(*entries)
         except StoreFailed as error:
             error.done = done
             raise
         return done
 
     def _served(self, call: Call, outcome: Outcome, move: Any) -> Done:
-        """The position after a request that was served."""
+        """Moves the position by a request that was served."""
         state, environment = outcome
         place = replace(self.position.places[call.service], state=state)
-        self.position = replace(
-            self.position.with_place(call.service, place),
+        self.position = self.position.with_place(call.service, place)._replace(
             target=move.target,
             environment=move.environment,
             served=self.position.served + 1,
@@ -401,7 +447,7 @@ class Dispatching(Generic[DeviceKind]):
         return Done(call.request, call.service, state, move.target, move.environment, failures)
 
     def _fail(self, failure: Failure) -> Steps[None]:
-        """A device has failed. Its service is frozen."""
+        """Freezes a service whose device has failed."""
         call = self.under_way
         assert call is not None
         yield from self._drop_and_freeze(call.service, Frozen.FAILED)
@@ -417,22 +463,28 @@ class Dispatching(Generic[DeviceKind]):
             raise trouble
 
     def _drop_and_freeze(self, service: str, cause: Frozen) -> Steps[None]:
-        """Drops the open request, and freezes a service."""
-        yield from self._drop()
+        """Drops the open request, and freezes a service. Until this has ended, the call is under way."""
+        yield from self._abort()
         with contextlib.suppress(AlreadyFrozen):
             yield from self._surely(protocol.freeze(service))
         place = self.position.places[service]
         self.position = self.position.with_place(service, replace(place, frozen=cause))
+        self.under_way = None
 
     def _drop(self) -> Steps[None]:
-        """Drops the request that is open."""
+        """Drops the open request."""
+        yield from self._abort()
+        self.under_way = None
+
+    def _abort(self) -> Steps[None]:
+        """Drops the open request of the session."""
         if self._open is not None:
             with contextlib.suppress(Idle):
                 yield from self._surely(protocol.abort())
-        self.under_way, self._open = None, None
+        self._open = None
 
     def _offered(self, action: str) -> Steps[Offer]:
-        """What is offered. If there is no composition, its explanation is in the error."""
+        """Requests an action, and returns the offer. If there is no composition, the error has the explanation."""
         try:
             offer = yield from self._surely(protocol.do(action))
         except NoComposition as refusal:
@@ -465,7 +517,7 @@ class Dispatching(Generic[DeviceKind]):
     def record(
         self, action: str, service: str, outcome: Outcome, key: str | None, source: str | None = None
     ) -> Steps[Done]:
-        """Takes a request as served, without asking a device."""
+        """Records that a request was served, without asking a device."""
         yield from self._catch_up()
         kept = self._look_up(action, key)
         if isinstance(kept, Done):
@@ -483,7 +535,7 @@ class Dispatching(Generic[DeviceKind]):
         except (Refusal, TypeError, ValueError):
             yield from self._drop()
             raise
-        self.position = replace(self.position, calls=call.number)
+        self.position = self.position._replace(calls=call.number)
         done = self._served(call, outcome, move)
         begun = CallBegun(call, call.number, source, "it was recorded")
         ended = CallEnded(call.number, RECORDED, outcome, done.target)
@@ -498,7 +550,7 @@ class Dispatching(Generic[DeviceKind]):
         return done
 
     def _keep(self, call: Call, kept: Kept) -> list[Entry]:
-        """Keeps what became of a request with a key."""
+        """Stores the value of a request's key. Returns the entries for the store."""
         if call.key is None:
             return []
         self.keys.pop(call.key, None)
@@ -507,12 +559,12 @@ class Dispatching(Generic[DeviceKind]):
         while len(self.keys) > KEYS:
             dropped.append(next(iter(self.keys)))
             del self.keys[dropped[-1]]
-        return [KeyKept(call.key, kept, tuple(dropped))]
+        return [KeyStored(call.key, kept, tuple(dropped))]
 
     # Changes.
 
     def event(self, event: Event[Value], cause: Frozen = Frozen.BY_HAND, source: str | None = None) -> Steps[Value]:
-        """Sends a line that is no request. A freeze has that cause."""
+        """Sends a line that isn't part of a request. `cause` is the reason of a freeze."""
         try:
             value, notice = yield from self._make(event, cause, source)
         except Refusal:
@@ -526,7 +578,7 @@ class Dispatching(Generic[DeviceKind]):
         return value
 
     def _make(self, event: Event[Value], cause: Frozen, source: str | None) -> Steps[tuple[Value, Notice | None]]:
-        """Makes a change, which is written later. Gives its value, and what is told of it."""
+        """Makes a change, which is written later. Returns its value, and its notice."""
         words = event.words
         if words[0] in ("do", "use", "saw", "abort", "quit"):
             raise ValueError(f"{words[0]} is no line to post")
@@ -546,27 +598,27 @@ class Dispatching(Generic[DeviceKind]):
         return value, Changed(words)
 
     def thaw(self, service: str, state: str | None, source: str | None = None) -> Steps[Repair]:
-        """A frozen service is back."""
+        """Takes a frozen service into use again."""
         if state is not None:
-            with contextlib.suppress(StoreFailed):  # It is written with the next line, or that says why not.
+            with contextlib.suppress(StoreFailed):  # `thaw` writes it too, or raises the error.
                 yield from self.event(protocol.jump(service, state), source=source)
         return (yield from self.event(protocol.thaw(service), source=source))
 
     def join(
         self, service: str, behaviour: str, state: str, loose: bool, device: DeviceKind, source: str | None = None
     ) -> Steps[Repair]:
-        """A new service joins."""
+        """Adds a service."""
         try:
             repair = yield from self.event(protocol.join(service, behaviour, state, loose=loose), source=source)
         except StoreFailed:
-            self.devices[service] = device  # It has joined, and that is written later.
+            self.devices[service] = device  # It has joined, and this is written later.
             raise
         self.devices[service] = device
         return repair
 
     def _ask_back(self) -> Steps[None]:
-        """Thaws those that are back of the services that failed."""
-        for service in sorted(self.failed) if self._asks_back else ():
+        """Thaws the failed services that are back."""
+        for service in sorted(self.failed):
             try:
                 answer = yield AskBack(service)
             except GeneratorExit:
@@ -588,21 +640,39 @@ class Dispatching(Generic[DeviceKind]):
     # The store, and the program.
 
     def _write(self, *entries: Entry) -> Steps[None]:
-        """Writes the position, these entries, and those that couldn't be written before. If that fails, they are
+        """Writes the position, these entries, and those that couldn't be written before. If this fails, they are
         written with the next ones."""
         if self._store is None:
             return
         self._unwritten += entries
-        yield Commit(self.position, tuple(self._unwritten))
+        try:
+            yield Commit(self.position, tuple(self._unwritten))
+        except StoreFailed as error:
+            yield from self._settle(error)
+            raise
         self._unwritten.clear()
+        yield from self._settle(None)
+
+    def _settle(self, error: StoreFailed | None) -> Steps[None]:
+        """Ends the requests that waited for this write. If it failed, they are written later."""
+        while self._owed:
+            done, settle = self._owed.pop(0)
+            yield from self._tell_served(done)
+            if error is None:
+                settle(done, None)
+            else:
+                later = StoreFailed(str(error))
+                later.done = done
+                settle(None, later)
 
     def _catch_up(self) -> Steps[None]:
-        """Writes what couldn't be written before: no answer tells of what isn't on the disk."""
+        """Writes what couldn't be written before, since answers contain only what is on the disk."""
         if self._unwritten:
             yield from self._write()
 
     def _surely(self, event: Event[Value]) -> Steps[Value]:
-        """Sends a line. If the program ends under it, another one goes on from the position, and it is sent again."""
+        """Sends a line. If the program ends meanwhile, the line is sent to another one, which continues from the
+        position."""
         for _ in range(RESTARTS):
             try:
                 value: Value = yield Tell(event)
@@ -613,7 +683,7 @@ class Dispatching(Generic[DeviceKind]):
         return last
 
     def _restart(self, over: SessionOver) -> Steps[None]:
-        """Starts another program, which goes on from the position."""
+        """Starts another program, which continues from the position."""
         if self._store is None:
             raise over
         LOG.warning("the program is started again: %s", over)
@@ -621,7 +691,7 @@ class Dispatching(Generic[DeviceKind]):
         yield Notify(Restarted(str(over)))
 
     def _restore_surely(self) -> Steps[None]:
-        """Goes on from the position in a new program, and in another one if that ends."""
+        """Continues from the position in a new program, and in another one if that one ends."""
         for _ in range(RESTARTS):
             try:
                 yield Restore(self._snapshot())
@@ -633,20 +703,23 @@ class Dispatching(Generic[DeviceKind]):
         yield Restore(self._snapshot())
 
     def _snapshot(self) -> Snapshot:
-        """Where the session stands."""
+        """The present states of the session."""
         if self.document is None:
             raise DocumentError("the document can't be read from here")
-        service = None if self.under_way is None else self.under_way.service
+        service = None if self._open is None or self.under_way is None else self.under_way.service
         return Snapshot(self.document.with_states(self.position), self._open, service)
 
     # After a kill.
 
     def _recover(self, call: Call) -> Steps[None]:
-        """Finds out what became of the call that was under way."""
+        """Finds out the result of the call that was under way."""
         done: Done | None = None
-        repeatable = self.devices[call.service].repeatable
-        told = yield from self._told(call, Serve(call) if repeatable else AskState(call))
-        outcome = self._judged(call, told, repeatable)
+        repeated = self.devices[call.service].repeatable
+        told = yield from self._told(call, Serve(call) if repeated else AskState(call))
+        if told is None and repeated:  # The call may still reach the device, which refuses it after it has answered.
+            repeated = False
+            told = yield from self._told(call, AskState(call))
+        outcome = self._judged(call, told, repeated)
         trouble = None
         try:
             if isinstance(outcome, tuple):
@@ -670,7 +743,7 @@ class Dispatching(Generic[DeviceKind]):
             raise trouble
 
     def _ended(self, *entries: Entry) -> Steps[StoreFailed | None]:
-        """Writes what came of a call. Gives the error if that can't be done now."""
+        """Writes the result of a call. Returns the error if this fails."""
         try:
             yield from self._write(*entries)
         except StoreFailed as error:
@@ -678,7 +751,7 @@ class Dispatching(Generic[DeviceKind]):
         return None
 
     def _told(self, call: Call, effect: Effect) -> Steps[Told]:
-        """What the device says. None if it gives no answer."""
+        """The answer of the device, or None if it has none."""
         try:
             told = yield effect
         except GeneratorExit:
@@ -694,9 +767,10 @@ class Dispatching(Generic[DeviceKind]):
         return _outcome(told)
 
     def _judged(self, call: Call, told: Told, repeated: bool) -> Outcome | Verdict | None:
-        """What became of a call by what its device says: an outcome that it may have, NOT_DONE, or None if that says
-        nothing. It may be the answer to the call if it was repeated, or if the device says that it did it. Else it is
-        the present state, which says nothing if it is the one before, and the action may lead there."""
+        """The result of a call by the answer of its device: a possible outcome, NOT_DONE, or None if it is unknown.
+        The answer is that to the call if the call was repeated, or if the device states that it did it. Otherwise it
+        is the present state. If this is the state before the call, and the action may lead to it, the result is
+        unknown."""
         did = isinstance(told, Did)
         outcome = told.outcome if isinstance(told, Did) else told
         if not isinstance(outcome, tuple):
@@ -711,7 +785,7 @@ class Dispatching(Generic[DeviceKind]):
     # A journal of an older form.
 
     def _take_over(self, store: Store, journal: takeover.Journal) -> Steps[None]:
-        """Goes on from a journal of an older form, which becomes a database."""
+        """Continues from a journal of an older form, which becomes a database."""
         self._check_document(store, journal.snapshot.document)
         replay = takeover.Replay(journal)
         yield Restore(journal.snapshot)
@@ -729,7 +803,7 @@ class Dispatching(Generic[DeviceKind]):
 
 
 def _outcome(answer: Any) -> Outcome | None:
-    """The answer of a device, if it is of the form of an outcome."""
+    """The outcome that an answer is. None if it has another form."""
     if isinstance(answer, (tuple, list)) and len(answer) == 2:
         state, environment = answer
         if isinstance(state, str) and isinstance(environment, str):

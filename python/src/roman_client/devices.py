@@ -1,4 +1,4 @@
-"""How services are reached."""
+"""Devices of services."""
 
 from __future__ import annotations
 
@@ -14,11 +14,11 @@ Outcome = tuple[str, str]
 
 
 class DeviceFailed(RomanError):
-    """For devices to raise. Any other exception does as well."""
+    """The error of a device. Any other exception counts as one, too."""
 
 
 class DeviceTimeout(DeviceFailed):
-    """A device didn't answer by its deadline. What it answers later isn't looked at."""
+    """A device didn't answer by its deadline. A later answer is ignored."""
 
 
 class DeviceLost(DeviceFailed):
@@ -84,7 +84,7 @@ class Device:
 
     def state(self, call: Call) -> Told:
         """What became of a call that was under way when the dispatcher was killed: where the device is now,
-        or NOT_DONE, or None where it can't tell."""
+        or NOT_DONE, or None if it doesn't know."""
         return None
 
 

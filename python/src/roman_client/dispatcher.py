@@ -33,13 +33,14 @@ class Dispatcher:
 
     Each request goes to an offered service that the policy chooses. A service whose device fails, doesn't
     answer by its deadline, or gives an impossible outcome, is frozen, and the request goes to another one.
-    It is thawed when it is back: where the dispatcher is given `back`, it asks so before each request; or
-    call `thaw`. Where there is no composition, `NoComposition` is raised with its explanation, and nothing
+    It is thawed when it is back. With `back` the dispatcher asks for this before each request; otherwise
+    call `thaw`. If there is no composition, `NoComposition` is raised with its explanation, and nothing
     has moved.
 
-    With a `store` it goes on where it stood after it was killed, or the program was. Requests and changes
-    may come from several threads, and take turns; changes that come while a request is open are made when
-    no device is at work for it. All changes go through the dispatcher, and none through its session.
+    With a `store` it continues from its last position after the dispatcher or the program was killed.
+    Requests and changes may come from several threads, and take turns. Changes that come while a request
+    is open are made when no device is at work for it. Make all changes by the dispatcher, and none by its
+    session.
     """
 
     def __init__(
@@ -55,10 +56,10 @@ class Dispatcher:
     ) -> None:
         """For a session between two requests. There is a device for each of its services.
 
-        `store` is the name of a database. Where there is one, the session goes on from it, in place of its
-        own states, and `recovered` says what became of a request that was under way. Raises `StoreLocked`
-        where another dispatcher is at work on it, and `StoreBroken` where it isn't one for this document.
-        `on_failure` is told each `Failure`, and `watch` everything.
+        `store` is the name of a database. If it exists, the session continues from it, in place of its
+        own states, and `recovered` has the result of the call that was under way. Raises `StoreLocked`
+        if another dispatcher is at work on it, and `StoreBroken` if it is that of another document.
+        `on_failure` receives each `Failure`, and `watch` each notice.
         """
         self.session = session
         self.policy = policy
@@ -89,17 +90,17 @@ class Dispatcher:
 
     @property
     def failed(self) -> frozenset[str]:
-        """The services that are frozen since they failed, or were when the dispatcher began."""
+        """The services that are frozen because they failed, or were frozen when the dispatcher began."""
         return self.core.failed
 
     @property
     def served(self) -> int:
-        """How many requests were served, over all runs with this store."""
+        """The number of requests served, over all runs with this store."""
         return self.core.position.served
 
     @property
     def under_way(self) -> Call | None:
-        """What a device is at work on."""
+        """The call that is under way."""
         return self.core.under_way
 
     @property
@@ -115,14 +116,14 @@ class Dispatcher:
             return self._in_turn(lambda: self.core.event(protocol.report()))
 
     def explain(self) -> Explanation:
-        """Why the present pair isn't related. Refused as `Related` where it is."""
+        """Why the present pair isn't related. Raises `Related` if it is."""
         return self._in_turn(lambda: self.core.event(protocol.explain()))
 
     # Requests.
 
     def request(self, action: str, key: str | None = None, source: str | None = None) -> Done:
-        """Has an action served. Raises `NoComposition`, and `NotAllowed` or `UnknownName` for an action that
-        the target doesn't allow here, or that isn't there.
+        """Serves an action. Raises `NoComposition`, `NotAllowed` if the target doesn't allow the action here, or
+        `UnknownName` if the document doesn't have it.
 
         With a `key` of its own, of at most 256 bytes, a request can be made again when the dispatcher was killed
         meanwhile. If it was served, its `Done` is given again, and no device is asked; if that is in doubt, `InDoubt`
@@ -151,7 +152,7 @@ class Dispatcher:
         return self._in_turn(lambda: self.core.event(event, source=source))
 
     def thaw(self, service: str, state: str | None = None, source: str | None = None) -> Repair:
-        """A frozen service is back, in that state, or in the one that it had."""
+        """Takes a frozen service into use again, in that state, or in the one that it had."""
         return self._in_turn(lambda: self.core.thaw(service, state, source))
 
     def freeze(self, service: str) -> Repair:
@@ -159,7 +160,7 @@ class Dispatcher:
         return self.change(protocol.freeze(service))
 
     def die(self, service: str) -> Repair:
-        """A service is gone."""
+        """Removes a service for good."""
         return self.change(protocol.die(service))
 
     def join(
@@ -172,27 +173,27 @@ class Dispatcher:
         loose: bool = False,
         source: str | None = None,
     ) -> Repair:
-        """A new service joins, with its device."""
+        """Adds a service with its device."""
         return self._in_turn(lambda: self.core.join(service, behaviour, state, loose, as_device(device), source))
 
     def jump(self, service: str, state: str) -> None:
-        """A service is in that state now, whatever its transitions say."""
+        """Sets the state of a service, whatever its transitions are."""
         self.change(protocol.jump(service, state))
 
     def jumpenv(self, environment: str) -> None:
-        """The environment is in that state now, whatever its transitions say."""
+        """Sets the state of the environment, whatever its transitions are."""
         self.change(protocol.jumpenv(environment))
 
     def post(self, event: Event[Value], cause: Frozen = Frozen.BY_HAND, source: str | None = None) -> Future[Value]:
-        """Has a change of `roman_client.protocol` made, as `jumpenv("dusk")`, without waiting for it: at once, or in
-        its turn if a request is open. It can be called by devices and policies, too. A freeze has that cause."""
+        """Makes a change of `roman_client.protocol`, such as `jumpenv("dusk")`, without waiting for it. If a request
+        is open, the change waits for its turn. Devices and policies may call this, too. `cause` is that of a freeze."""
         future = self._posted(event, cause, source)
         if not self._is_inside():
             self._drain()
         return future
 
     def close(self) -> None:
-        """Lets go of the store. The session goes on."""
+        """Closes the store. The session goes on."""
         if self._store is not None:
             self._store.close()
 
@@ -255,7 +256,7 @@ class Dispatcher:
     # Its steps.
 
     def _perform(self, effect: Effect) -> Any:
-        """Does one step of the dispatcher."""
+        """Carries out one step of the dispatcher."""
         return self._performers[type(effect)](self, effect)
 
     def _tell(self, effect: Tell[Any]) -> Any:
@@ -290,7 +291,7 @@ class Dispatcher:
             self._told(self._on_failure, effect.notice)
 
     def _told(self, listener: Callable[[Any], None] | None, notice: Notice) -> None:
-        """Tells a listener, whose errors are logged."""
+        """Calls a listener, and logs its errors."""
         if listener is None:
             return
         try:

@@ -1,7 +1,7 @@
-"""System documents: read with their part files, looked up, given other starting states, and written.
+"""System documents: reads them with their part files, looks things up, sets other starting states, and writes them.
 
-The program alone decides what a document is. This module checks no more than the form that it needs to
-look things up, and says nothing of names that aren't there or of rules that a document breaks.
+The program alone decides what a document is. This module checks only the form that look-ups need. It reports neither
+unknown names nor broken rules.
 """
 
 from __future__ import annotations
@@ -11,7 +11,7 @@ import json
 import math
 import os
 from collections.abc import Iterator, Mapping, Sequence
-from dataclasses import dataclass
+from dataclasses import dataclass, field
 from pathlib import Path
 from typing import Any, NamedTuple, Protocol, Union
 
@@ -30,7 +30,10 @@ MOST_STATES = 64
 """The most states that a target may have, or all of several targets together."""
 
 DEEPEST = 127
-"""The most lists and objects that may stand within each other."""
+"""The most lists and objects that may stand within each other in a file."""
+
+DEEPEST_WHOLE = DEEPEST + 2
+"""The same with the parts in place: a behaviour from a file stands within a list and an object."""
 
 
 class DocumentError(RomanError, ValueError):
@@ -41,13 +44,15 @@ class ShortForm(DocumentError):
     """A document is in the short form, which the program doesn't read."""
 
 
-class Step(NamedTuple):
-    """A transition of a behaviour or a target."""
+@dataclass(frozen=True)
+class Step:
+    """A transition of a behaviour or a target. `source` is the list that stands in the document."""
 
     state: str
     guard: Guard
     action: str
     to: str
+    source: Any = field(default=None, compare=False, repr=False)
 
 
 class Request(NamedTuple):
@@ -57,12 +62,14 @@ class Request(NamedTuple):
     action: str
 
 
-class EnvironmentStep(NamedTuple):
-    """A transition of the environment."""
+@dataclass(frozen=True)
+class EnvironmentStep:
+    """A transition of the environment. `source` is the list that stands in the document."""
 
     state: str
     action: str
     to: str
+    source: Any = field(default=None, compare=False, repr=False)
 
 
 @dataclass(frozen=True)
@@ -78,6 +85,14 @@ class Environment:
         """The states to which an action may lead from that one, each once."""
         found = (step.to for step in self.steps if step.state == state and step.action == action)
         return tuple(dict.fromkeys(found))
+
+    def before(self, action: str) -> frozenset[str]:
+        """The states in which an action may be carried out."""
+        return frozenset(step.state for step in self.steps if step.action == action)
+
+    def states_in(self, guard: Guard) -> frozenset[str]:
+        """The states in which a guard holds."""
+        return frozenset(state for state in self.states if holds(guard, state))
 
 
 @dataclass(frozen=True)
@@ -102,7 +117,7 @@ class Machine:
 
 
 class States(Protocol):
-    """Where a session stands, as a report says it."""
+    """The states in a report of a session."""
 
     @property
     def target(self) -> str:
@@ -125,16 +140,15 @@ class Document:
     """
 
     def __init__(self, value: Any) -> None:
-        """From JSON with no parts by file. Raises DocumentError where it isn't of the form of a document."""
+        """From JSON with no parts by file. Raises DocumentError if it doesn't have the form of a document."""
         try:
             self._take(value)
         except (AttributeError, IndexError, KeyError, TypeError, ValueError) as error:
             raise DocumentError(f"it isn't a system document: {error!r}") from None
 
     def _take(self, value: Any) -> None:
-        if nesting(value) > DEEPEST:
-            raise ValueError(f"more than {DEEPEST} lists and objects stand within each other")
-        self.value: dict[str, Any] = dict(value)
+        check_nesting(value, DEEPEST_WHOLE)
+        self.value: dict[str, Any] = value
         self.version: int = value["roman"]
         if type(self.version) is not int or not 1 <= self.version <= 3:
             raise ValueError(f"{self.version!r} is no version")
@@ -189,7 +203,7 @@ class Document:
         """Reads a document with its part files. `folder` is where both names count from, as they do for
         the program that runs there; the working folder, where it is None. Raises DocumentError."""
         top = Path() if folder is None else Path(folder)
-        value = read_json(top / path)
+        value = _read_part(top / path)
         if not isinstance(value, dict):
             raise DocumentError(f"{os.fspath(path)} is no object")
         if value.get("roman") == "short":
@@ -218,14 +232,14 @@ class Document:
 
     def target_states(self, state: str) -> tuple[str, ...]:
         """The states of all targets that one text stands for, as `bright-watering` does. Raises
-        DocumentError where it stands for none."""
+        DocumentError if it stands for none."""
         if state not in self._combined:
             raise DocumentError(f"{state} is no state of the target")
         return self._combined[state]
 
     def delegated(self, action: str) -> str:
         """The action that a service is asked for at a request: for `draw-beds` it is `draw`, where there
-        are several targets. Raises DocumentError where there is no such request."""
+        are several targets. Raises DocumentError if there is no such request."""
         return self._request(action).action
 
     def _request(self, action: str) -> Request:
@@ -234,7 +248,7 @@ class Document:
         return self._requests[action]
 
     def target_after(self, state: str, environment: str, action: str) -> str | None:
-        """The target's state after a request, or None where the target doesn't have it there. (The
+        """The target's state after a request, or None if the target doesn't allow it there. (The
         environment may still lack the action there; see `allowed`.)"""
         states = self.target_states(state)
         seat, plain = self._request(action)
@@ -301,11 +315,11 @@ class Document:
         return _text_of(self.value)
 
     def write(self, path: PathLike) -> None:
-        """Writes the document. Where one file would be too long for the program, its parts stand in files
-        beside it, whose names begin with that of the document. Raises DocumentError where even a part
-        is too long, and OSError where a file can't be written."""
+        """Writes the document. If one file would be too long or too deep for the program, its parts are written to
+        files beside it, whose names begin with that of the document. Raises DocumentError if even a part is too
+        long, and OSError if a file can't be written."""
         whole = self.text()
-        if len(whole.encode()) <= LONGEST_DOCUMENT:
+        if len(whole.encode()) <= LONGEST_DOCUMENT and nesting(self.value) <= DEEPEST:
             _write(Path(path), whole)
             return
         value = dict(self.value)
@@ -342,6 +356,22 @@ def read_json(path: PathLike) -> Any:
         raise DocumentError(f"{os.fspath(path)}: {error.strerror}") from None
     except (ValueError, RecursionError) as error:
         raise DocumentError(f"{os.fspath(path)}: {error}") from None
+
+
+def _read_part(path: Path) -> Any:
+    """The JSON in a file of a document. Raises DocumentError."""
+    value = read_json(path)
+    try:
+        check_nesting(value, DEEPEST)
+    except ValueError as error:
+        raise DocumentError(f"{path}: {error}") from None
+    return value
+
+
+def check_nesting(value: Any, most: int) -> None:
+    """Raises ValueError if more lists and objects stand within each other."""
+    if nesting(value) > most:
+        raise ValueError(f"more than {most} lists and objects stand within each other")
 
 
 def nesting(value: Any) -> int:
@@ -397,17 +427,17 @@ def _in_place(value: Mapping[str, Any], folder: Path) -> Iterator[tuple[str, Any
 
 
 def _part(value: Any, folder: Path) -> Any:
-    """A part, from its file where it is given by one."""
+    """A part, from its file if it is given by one."""
     if not isinstance(value, dict) or "file" not in value:
         return value
-    part = read_json(folder / text(value["file"]))
+    part = _read_part(folder / text(value["file"]))
     if isinstance(part, dict):
         part.pop("file", None)  # It names no file there, and would in the place of the part.
     return part
 
 
 def _environment(value: Any) -> Environment:
-    steps = tuple(EnvironmentStep(*_words(step, 3)) for step in listed(value["steps"]))
+    steps = tuple(_environment_step(step) for step in listed(value["steps"]))
     return Environment(texts(value["states"]), text(value["start"]), texts(value["actions"]), steps)
 
 
@@ -417,17 +447,15 @@ def _machine(value: Any, name: str) -> Machine:
     return Machine(name, texts(value["states"]), text(value["start"]), final, steps)
 
 
-def _words(value: Any, count: int) -> tuple[str, ...]:
-    words = texts(value)
-    if len(words) != count:
-        raise ValueError(f"{value!r} has not {count} items")
-    return words
+def _environment_step(value: Any) -> EnvironmentStep:
+    state, action, to = texts(value)
+    return EnvironmentStep(state, action, to, value)
 
 
 def _step(value: Any) -> Step:
     state, guard, action, to = listed(value)
     _check_guard(guard)
-    return Step(text(state), guard, text(action), text(to))
+    return Step(text(state), guard, text(action), text(to), value)
 
 
 def _check_guard(guard: Any) -> None:

@@ -1,4 +1,4 @@
-"""The steps of a dispatcher that need input or output. Its generators yield them, and are sent their result."""
+"""The steps of a dispatcher that need input or output. Its generators yield them, and receive their results."""
 
 from __future__ import annotations
 
@@ -13,49 +13,49 @@ from .snapshots import Snapshot
 from .store import Entry, Stored
 
 
-@dataclass(frozen=True)
+@dataclass(slots=True)
 class Restore(Effect):
-    """Let the session go on from there, in a new program."""
+    """Continue the session from a snapshot, in a new program."""
 
     snapshot: Snapshot
 
 
-@dataclass(frozen=True)
+@dataclass(slots=True)
 class Serve(Effect):
-    """Have the device of the call's service serve it. Gives its answer."""
+    """Call the device of the service, and return its answer."""
 
     call: Call
 
 
-@dataclass(frozen=True)
+@dataclass(slots=True)
 class AskState(Effect):
-    """Ask the device of the call's service whether it did it."""
+    """Ask the device of the call's service whether it did the call."""
 
     call: Call
 
 
-@dataclass(frozen=True)
+@dataclass(slots=True)
 class AskBack(Effect):
     """Ask whether a service is back."""
 
     service: str
 
 
-@dataclass(frozen=True)
+@dataclass(slots=True)
 class Choose(Effect):
-    """Ask the policy."""
+    """Ask the policy for a choice."""
 
     choice: Choice
 
 
-@dataclass(frozen=True)
+@dataclass(slots=True)
 class Begin(Effect):
-    """Make the store, with that in it."""
+    """Create the store with this content."""
 
     stored: Stored
 
 
-@dataclass(frozen=True)
+@dataclass(slots=True)
 class Commit(Effect):
     """Write the position and the entries to the store, in one transaction."""
 
@@ -63,8 +63,8 @@ class Commit(Effect):
     entries: tuple[Entry, ...]
 
 
-@dataclass(frozen=True)
+@dataclass(slots=True)
 class Notify(Effect):
-    """Tell the listeners."""
+    """Send a notice to the listeners."""
 
     notice: Notice

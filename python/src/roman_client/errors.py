@@ -1,4 +1,4 @@
-"""What can go wrong: refusals, and a program that ended."""
+"""Errors of the client: refusals, a program that ended, and the store."""
 
 from __future__ import annotations
 
@@ -11,7 +11,7 @@ if TYPE_CHECKING:
 
 
 class RomanError(Exception):
-    """Any error of this client."""
+    """The base class of all errors of this client."""
 
 
 class NotBegun(RomanError):
@@ -126,7 +126,7 @@ class NameTaken(Refusal):
 
 
 class Full(Refusal):
-    """`error full`: there are as many services as there may be."""
+    """`error full`: the number of services is at its limit."""
 
 
 class OverLimit(Refusal):
@@ -170,7 +170,7 @@ class InsideRequest(RomanError):
 
 
 class StoreError(RomanError):
-    """Something is wrong with the store of a dispatcher."""
+    """An error of the store of a dispatcher."""
 
 
 class StoreLocked(StoreError):

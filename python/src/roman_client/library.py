@@ -32,13 +32,15 @@ class Handle(ctypes.Structure):
 
 
 @lru_cache(maxsize=None)
-def loaded(path: str) -> ctypes.CDLL:
+def load_library(path: str) -> ctypes.CDLL:
     """The library at that path. Raises OSError if it can't be loaded."""
     library = ctypes.CDLL(path)
     handle = ctypes.POINTER(Handle)
     text = [ctypes.c_char_p, ctypes.c_size_t]
     library.roman_add.argtypes = [handle, *text, *text]
     library.roman_open.argtypes = [handle, handle, *text]
+    library.roman_synth.argtypes = [handle, handle, *text]
+    library.roman_check.argtypes = [handle, handle, *text, *text]
     library.roman_answer.argtypes = [handle, *text]
     library.roman_reply.argtypes = [handle, ctypes.c_size_t, *text]
     library.roman_reply.restype = ctypes.c_size_t
@@ -60,21 +62,76 @@ def part_names(text: bytes) -> Iterator[str]:
                 yield part["file"]
 
 
+def put_system(library: ctypes.CDLL, shelf: Handle, system: str, folder: Path, errors: list[str]) -> None:
+    """Puts the document and its part files on the shelf. One that can't be read is left out."""
+    text = put_file(library, shelf, system, folder, errors)
+    for name in dict.fromkeys(part_names(text)):
+        if name != system:
+            put_file(library, shelf, name, folder, errors)
+
+
+def put_file(library: ctypes.CDLL, shelf: Handle, name: str, folder: Path, errors: list[str]) -> bytes:
+    """Puts a file on the shelf, unless it can't be read. Returns its content."""
+    try:
+        text = (folder / name).read_bytes()
+    except (OSError, ValueError) as error:
+        errors.append(f"roman: {name}: {getattr(error, 'strerror', None) or error}")
+        return b""
+    library.roman_add(shelf, os.fsencode(name), len(os.fsencode(name)), text, len(text))
+    return text
+
+
+def synth(system: PathLike, library: Library = True, folder: PathLike | None = None) -> tuple[int, str]:
+    """Returns the status and the text of `roman synth`, without a process. `folder` is where names count from; the
+    working folder if it is None."""
+    return _work(library, folder, [os.fspath(system)])
+
+
+def check(
+    system: PathLike, certificate: PathLike, library: Library = True, folder: PathLike | None = None
+) -> tuple[int, str]:
+    """Returns the status and the text of `roman check`, without a process."""
+    return _work(library, folder, [os.fspath(system), os.fspath(certificate)])
+
+
+def _work(library: Library, folder: PathLike | None, names: list[str]) -> tuple[int, str]:
+    """Calls `roman_synth` for one name, and `roman_check` for two."""
+    calls = load_library(NAME if isinstance(library, bool) else os.fspath(library))
+    top = Path() if folder is None else Path(folder)
+    shelf, session = Handle(), Handle()
+    try:
+        put_system(calls, shelf, names[0], top, [])
+        for name in names[1:]:
+            put_file(calls, shelf, name, top, [])
+        words = [word for name in names for word in (os.fsencode(name), len(os.fsencode(name)))]
+        status = (calls.roman_synth if len(names) == 1 else calls.roman_check)(session, shelf, *words)
+        length = calls.roman_reply(session, 0, b"", 0)
+        room = ctypes.create_string_buffer(length)
+        calls.roman_reply(session, 0, room, length)
+        return status, ctypes.string_at(room, length).decode(errors="replace")
+    finally:
+        calls.roman_close(session)
+        calls.roman_clear(shelf)
+
+
 class InProcess:
     """A session of the library, with the calls of `Pipes`. A crash of this process takes it along."""
-
-    pid = os.getpid()
 
     def __init__(self, start: Start, library: Library) -> None:
         self._ended: ProgramEnded | None = None
         self._session = Handle()
-        self._library = loaded(NAME if isinstance(library, bool) else os.fspath(library))
+        self._library = load_library(NAME if isinstance(library, bool) else os.fspath(library))
         self._room = ctypes.create_string_buffer(4096)
         self._open(start.words[-1], Path() if start.folder is None else Path(start.folder))
 
     def __del__(self) -> None:
         if self._session.full:
             self._close(0)
+
+    @property
+    def pid(self) -> int:
+        """The process ID of this process."""
+        return os.getpid()
 
     def exchange(self, exchange: Exchange) -> list[str]:
         """Answers a line. Raises `ProgramEnded` if the session has ended or memory runs out."""
@@ -97,37 +154,24 @@ class InProcess:
         return None if self._ended is None else self._ended.status
 
     def close(self) -> int:
-        """Ends the session, and gives the program's status."""
+        """Ends the session, and returns the program's status."""
         return self._close(0)
 
     def stop(self) -> int:
-        """Ends the session, and gives the program's status."""
+        """Ends the session, and returns the program's status."""
         return self._close(0)
 
     def _open(self, system: str, folder: Path) -> None:
         shelf = Handle()
         errors: list[str] = []
         try:
-            self._add(shelf, system, folder, errors)
+            put_system(self._library, shelf, system, folder, errors)
             name = os.fsencode(system)
             status = self._library.roman_open(self._session, shelf, name, len(name))
         finally:
             self._library.roman_clear(shelf)
         if status:
             self._ended = ProgramEnded(status, self._reply(), errors if status == MISSING else ())
-
-    def _add(self, shelf: Handle, system: str, folder: Path, errors: list[str]) -> None:
-        """Puts the document and its part files on the shelf. One that can't be read is left out."""
-        names = [system]
-        for name in names:
-            try:
-                text = (folder / name).read_bytes()
-            except (OSError, ValueError) as error:
-                errors.append(f"roman: {name}: {getattr(error, 'strerror', None) or error}")
-                continue
-            if name == system and len(names) == 1:
-                names.extend(dict.fromkeys(part_names(text)))
-            self._library.roman_add(shelf, os.fsencode(name), len(os.fsencode(name)), text, len(text))
 
     def _reply(self) -> list[str]:
         """The lines of the last reply."""

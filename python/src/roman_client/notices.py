@@ -1,4 +1,4 @@
-"""What a dispatcher tells: of requests that were served, of services that failed, and of changes."""
+"""Notices of a dispatcher: requests that were served, services that failed, and changes."""
 
 from __future__ import annotations
 

@@ -30,7 +30,7 @@ class Pipes:
             stderr=subprocess.PIPE,
             cwd=start.folder,
             bufsize=0,
-            start_new_session=True,  # Ctrl-C is for whoever talks to it.
+            start_new_session=True,  # Ctrl-C doesn't end it.
         )
         assert self.process.stdin is not None
         os.set_blocking(self.process.stdin.fileno(), False)
@@ -42,11 +42,11 @@ class Pipes:
 
     @property
     def pid(self) -> int:
-        """The number of the program's process."""
+        """The process ID of the program."""
         return self.process.pid
 
     def poll(self) -> int | None:
-        """The program's status, or None while it is running."""
+        """The program's status, or None while it runs."""
         return self.process.poll()
 
     def exchange(self, exchange: Exchange) -> list[str]:
@@ -70,7 +70,7 @@ class Pipes:
             raise
 
     def close(self) -> int:
-        """Closes the input, ends the program where it doesn't end by itself, and gives its status."""
+        """Closes the input, ends the program if it doesn't end by itself, and returns its status."""
         assert self.process.stdin is not None
         try:
             self.process.stdin.close()
@@ -155,7 +155,7 @@ class Pipes:
         return bool(ready) or not gone
 
     def _ending(self) -> ProgramEnded:
-        """How the program ended, with what it still said. It is ended where it only closed its output."""
+        """How the program ended, with its last output. It is ended if it only closed its output."""
         while self._watch.get_map() and self._gather(0.2):
             pass
         try:

@@ -45,7 +45,7 @@ GREATEST_COST = 1_000_000
 class LeastCost:
     """The policy of the service that costs least for this request, the first of those that cost alike.
 
-    A cost is given for a behaviour and an action, and is 0 where none is.
+    A cost is given for a behaviour and an action. The default is 0.
     """
 
     def __init__(self, costs: Iterable[Sequence[str | int]]) -> None:

@@ -4,7 +4,9 @@ from __future__ import annotations
 
 import enum
 from collections.abc import Mapping
-from dataclasses import dataclass, field, replace
+from dataclasses import dataclass, replace
+from types import MappingProxyType
+from typing import NamedTuple
 
 from .replies import Report, Service
 
@@ -29,14 +31,13 @@ class Place:
     frozen: Frozen | None = None
 
 
-@dataclass(frozen=True)
-class Position:
+class Position(NamedTuple):
     """The states of target, environment and services, in the order of a report, with the number of requests
     served, the number of the newest call, and that of the newest change."""
 
     target: str
     environment: str
-    places: Mapping[str, Place] = field(default_factory=dict)
+    places: Mapping[str, Place] = MappingProxyType({})
     served: int = 0
     calls: int = 0
     changes: int = 0
@@ -64,17 +65,17 @@ class Position:
 
     def with_place(self, service: str, place: Place) -> Position:
         """The position with a service in that place."""
-        return replace(self, places={**self.places, service: place})
+        return self._replace(places={**self.places, service: place})
 
     def after(self, words: tuple[str, ...], cause: Frozen) -> Position:
         """The position after a change that the program accepted. A freeze has that cause."""
         word, *rest = words
-        position = replace(self, changes=self.changes + 1)
+        position = self._replace(changes=self.changes + 1)
         if word == "jumpenv":
-            return replace(position, environment=rest[0])
+            return position._replace(environment=rest[0])
         service = rest[0]
         if word == "die":
-            return replace(position, places={name: each for name, each in self.places.items() if name != service})
+            return position._replace(places={name: each for name, each in self.places.items() if name != service})
         if word == "join":
             return position.with_place(service, Place(rest[1], rest[2], len(rest) == 4))
         place = self.places[service]

@@ -1,8 +1,8 @@
-"""The lines of a session and their replies, and what a session does with them, without a transport.
+"""The lines of a session and their replies, and the steps of a session, without a transport.
 
-Whatever a session does is a generator of type `Steps`. It yields what a transport is to do, one of the
-classes below `Effect`, and is sent what came of it. So the session of this package, which waits, and that
-of `roman_client.aio` share all but the pipes.
+All that a session does is a generator of type `Steps`. It yields effects, subclasses of `Effect`, which a transport
+performs, and receives their results. So the session of this package, which waits, and that of `roman_client.aio` share
+all but the pipes.
 """
 
 from __future__ import annotations
@@ -13,6 +13,7 @@ import re
 import tempfile
 from collections.abc import Callable, Generator, Mapping, Sequence
 from dataclasses import dataclass
+from functools import lru_cache
 from pathlib import Path
 from typing import Any, Generic, TypeVar, Union
 
@@ -32,6 +33,9 @@ LONGEST = 16_777_216
 
 RESERVE = 65_536
 """With fewer bytes left a session goes on in a new program between two requests."""
+
+REMEMBERED = 1024
+"""How many lines are remembered, so that they are made once."""
 
 WORD = re.compile(r"[^\s\x00-\x1f]+")
 """A word of a line: letters without blanks and control characters."""
@@ -53,11 +57,21 @@ class Event(Generic[Value]):
     @property
     def line(self) -> str:
         """The line. Raises ValueError for a word that is none, and TypeError for one that is no text."""
-        line = " ".join(self.words)
-        for word in self.words:
-            if WORD.fullmatch(word) is None:
-                raise ValueError(f"{word!r} is no word of a line")
-        return line
+        return self.data[:-1].decode()
+
+    @property
+    def data(self) -> bytes:
+        """The line as it is sent. Raises what `line` raises."""
+        return _data(self.words)
+
+
+@lru_cache(REMEMBERED)
+def _data(words: tuple[str, ...]) -> bytes:
+    line = " ".join(words)
+    for word in words:
+        if WORD.fullmatch(word) is None:
+            raise ValueError(f"{word!r} is no word of a line")
+    return f"{line}\n".encode()
 
 
 def _words(first: str, count: int | None, lines: Sequence[str]) -> list[str]:
@@ -149,7 +163,7 @@ def quit() -> Event[None]:
 
 
 def event_of(words: Sequence[str]) -> Event[Any]:
-    """The change that these words say. Raises ValueError where they are none."""
+    """The change that these words name. Raises ValueError if they name none."""
     first, *rest = words
     if first == "join" and len(rest) in (3, 4) and rest[3:] in ([], ["loose"]):
         return join(rest[0], rest[1], rest[2], loose=len(rest) == 4)
@@ -169,55 +183,56 @@ def event_of(words: Sequence[str]) -> Event[Any]:
 # What a transport does.
 
 
-@dataclass(frozen=True)
+@dataclass(slots=True)
 class Effect:
-    """What is yielded by `Steps`."""
+    """An effect that `Steps` yields."""
 
 
-@dataclass(frozen=True)
+@dataclass(slots=True)
 class Start(Effect):
-    """Start a program, and end the one before. Gives None."""
+    """Start a program, and end the one before. Returns None."""
 
     words: tuple[str, ...]
     folder: PathLike | None
 
 
-@dataclass(frozen=True)
+@dataclass(slots=True)
 class Exchange(Effect):
-    """Send a line, and read its whole reply. Gives the lines of the reply, or raises `ProgramEnded` or
+    """Send a line, and read its whole reply. Returns the lines of the reply, or raises `ProgramEnded` or
     `NoReply`."""
 
     data: bytes
     opens: str | None
 
     def is_long(self, first: str) -> bool:
-        """Whether a reply with this first line goes on up to the line `end`."""
+        """Whether a reply with this first line ends with the line `end`."""
         return self.opens is not None and first.split()[:1] == [self.opens]
 
 
-@dataclass(frozen=True)
+@dataclass(slots=True)
 class Stop(Effect):
-    """End the program at once. Gives None."""
+    """End the program at once. Returns None."""
 
 
 Steps = Generator[Effect, Any, Value]
-"""What is to be done, up to a value."""
+"""Effects, and the value at their end."""
 
 
-@dataclass(frozen=True)
+@dataclass(slots=True)
 class Tell(Effect, Generic[Value]):
-    """Send a line to a session. Gives the value of the reply."""
+    """Send a line to a session. Returns the value of the reply."""
 
     event: Event[Value]
 
 
 LAST_WORDS = ("refused", "limit", "usage:")
-"""With one of these a line begins in place of a reply where the program is about to end."""
+"""The beginnings of lines that replace a reply if the program is about to end."""
 
 
 def is_farewell(line: str) -> bool:
     """Whether a line says, in place of a reply, why the program ends."""
-    return line.split()[:1] in ([word] for word in LAST_WORDS)
+    words = line.split(maxsplit=1)
+    return bool(words) and words[0] in LAST_WORDS
 
 
 # The session.
@@ -289,7 +304,7 @@ class Conversation:
         """Sends a line, and gives the value of the reply. Where the session is near its end it goes on in a
         new program before that: between two requests while there is some room left, and at the latest
         where there would be none."""
-        data = _data(event)
+        data = event.data
         needed = self.sent + len(data) + len(REPORT)
         if needed > self.longest:
             yield from self._go_on()
@@ -311,7 +326,7 @@ class Conversation:
 
     def _told(self, event: Event[Value]) -> Steps[Value]:
         """Sends a line, and gives the value of the reply."""
-        return self._sent(event, _data(event))
+        return self._sent(event, event.data)
 
     def _sent(self, event: Event[Value], data: bytes) -> Steps[Value]:
         """Sends a line as these bytes, and gives the value of the reply."""
@@ -340,11 +355,7 @@ class Conversation:
             self.request = self.service = None
 
 
-def _data(event: Event[Any]) -> bytes:
-    return f"{event.line}\n".encode()
-
-
-REPORT = _data(report())
+REPORT = report().data
 """The line that asks for the present states."""
 
 

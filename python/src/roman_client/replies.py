@@ -120,7 +120,7 @@ def _told(entry: Lost) -> str:
 
 
 def report_of(lines: Sequence[str]) -> Report:
-    """The report that these lines are, the last of which is `end`. ValueError where they are none."""
+    """The report in these lines, the last of which is `end`. Raises ValueError if they are none."""
     rest = [line.split() for line in lines]
     (pairs_word, pairs), (related_word, related), (environment_word, environment) = rest[:3]
     target_word, target, finality = rest[3]

@@ -91,7 +91,7 @@ class Session:
     # The events.
 
     def do(self, action: str) -> Offer:
-        """Requests an action, and says which services may serve it. The next event is `use` or `abort`."""
+        """Requests an action, and returns the services that may serve it. The next event is `use` or `abort`."""
         return self.tell(protocol.do(action))
 
     def use(self, service: str) -> None:
@@ -103,31 +103,31 @@ class Session:
         return self.tell(protocol.saw(state, environment))
 
     def abort(self) -> None:
-        """Drops the request that is open; nothing has moved."""
+        """Drops the open request. No state changes."""
         self.tell(protocol.abort())
 
     def freeze(self, service: str) -> Repair:
-        """A service takes no requests any more, and keeps its state."""
+        """Takes a service out of use. It keeps its state."""
         return self.tell(protocol.freeze(service))
 
     def thaw(self, service: str) -> Repair:
-        """A frozen service takes requests again."""
+        """Takes a frozen service into use again."""
         return self.tell(protocol.thaw(service))
 
     def die(self, service: str) -> Repair:
-        """A service is gone."""
+        """Removes a service for good."""
         return self.tell(protocol.die(service))
 
     def join(self, service: str, behaviour: str, state: str, *, loose: bool = False) -> Repair:
-        """A new service joins, in that state of a behaviour of the catalogue."""
+        """Adds a service in that state of a behaviour of the catalogue."""
         return self.tell(protocol.join(service, behaviour, state, loose=loose))
 
     def jump(self, service: str, state: str) -> None:
-        """A service is in that state now, whatever its transitions say."""
+        """Sets the state of a service, whatever its transitions are."""
         self.tell(protocol.jump(service, state))
 
     def jumpenv(self, environment: str) -> None:
-        """The environment is in that state now, whatever its transitions say."""
+        """Sets the state of the environment, whatever its transitions are."""
         self.tell(protocol.jumpenv(environment))
 
     def report(self) -> Report:
@@ -135,20 +135,20 @@ class Session:
         return self.tell(protocol.report())
 
     def explain(self) -> Explanation:
-        """Why the present pair isn't related. Refused as `Related` where it is."""
+        """Why the present pair isn't related. Raises `Related` if it is."""
         return self.tell(protocol.explain())
 
     def quit(self) -> int:
-        """Ends the session, and gives the program's status."""
+        """Ends the session, and returns the program's status."""
         self.tell(protocol.quit())
         return self.close()
 
     def tell(self, event: Event[Value]) -> Value:
-        """Sends the line of any event of `roman_client.protocol`, and gives the value of its reply."""
+        """Sends the line of any event of `roman_client.protocol`, and returns the value of its reply."""
         return self.run(self.core.tell(event))
 
     def restore(self, snapshot: Snapshot) -> Report:
-        """Goes on from a snapshot, in a new program, and gives the report of the states there."""
+        """Goes on from a snapshot in a new program, and returns the report of its states."""
         return self.run(self.core.resume(snapshot))
 
     def snapshot(self) -> Snapshot:
@@ -160,26 +160,26 @@ class Session:
 
     @property
     def changes(self) -> int:
-        """How many changes were made: freezes, thaws, deaths, joins and jumps."""
+        """The number of changes: freezes, thaws, deaths, joins and jumps."""
         return self.core.changes
 
     @property
     def status(self) -> int | None:
-        """The program's status, or None where it is still running."""
+        """The program's status, or None while it runs."""
         return self._running().poll()
 
     @property
     def pid(self) -> int:
-        """The number of the program's process."""
+        """The process ID of the program."""
         return self._running().pid
 
     @property
     def room(self) -> int:
-        """How many bytes the present program still takes."""
+        """The number of bytes that the present program still takes."""
         return self.core.longest - self.core.sent
 
     def close(self) -> int:
-        """Closes the input, ends the program where it doesn't end by itself, and gives its status."""
+        """Closes the input, ends the program if it doesn't end by itself, and returns its status."""
         return self._running().close()
 
     def __enter__(self) -> Session:
@@ -196,12 +196,12 @@ class Session:
     # Its steps.
 
     def run(self, steps: Steps[Value]) -> Value:
-        """Does the steps of the session."""
+        """Carries out the steps of the session."""
         with self._turn:
-            return protocol.run(steps, self.perform)
+            return protocol.run(steps, self._perform)
 
-    def perform(self, effect: Effect) -> Any:
-        """Does one step of the session."""
+    def _perform(self, effect: Effect) -> Any:
+        """Carries out one step of the session."""
         if isinstance(effect, Exchange):
             return self._running().exchange(effect)
         if isinstance(effect, Start):

@@ -1,4 +1,4 @@
-"""Where a session stands, to go on from later."""
+"""Snapshots of sessions, from which they can be resumed."""
 
 from __future__ import annotations
 
@@ -12,8 +12,8 @@ from .documents import Document, DocumentError, PathLike
 
 @dataclass(frozen=True)
 class Snapshot:
-    """Where a session stands: the document with the present states, the action that is requested, and the
-    service that was used for it, each None where there is none."""
+    """A snapshot of a session: the document with its present states, the action that is requested, and the
+    service that was used for it, each None if there is none."""
 
     document: Document
     request: str | None = None
@@ -25,7 +25,7 @@ class Snapshot:
 
     @classmethod
     def of_json(cls, value: Any) -> Snapshot:
-        """The snapshot that this JSON is. Raises DocumentError where it is none."""
+        """The snapshot in this JSON. Raises DocumentError if it isn't one."""
         try:
             request, service = value["request"], value["service"]
             document = Document(value["document"])
@@ -42,7 +42,7 @@ class Snapshot:
 
     @classmethod
     def read(cls, path: PathLike) -> Snapshot:
-        """Reads a snapshot from a file. Raises DocumentError where there is none."""
+        """Reads a snapshot from a file. Raises DocumentError if the file has none."""
         try:
             value = json.loads(Path(path).read_text(encoding="utf-8"))
         except (OSError, ValueError, RecursionError) as error:

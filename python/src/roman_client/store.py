@@ -1,7 +1,7 @@
-"""The store of a dispatcher: a database that has its newest position, and what has happened.
+"""The store of a dispatcher: a database of its newest position and of its history.
 
 Each commit is one transaction, which is on the disk when the call returns. A lock on a file beside the database
-keeps a second dispatcher from it.
+keeps out a second dispatcher.
 """
 
 from __future__ import annotations
@@ -12,10 +12,11 @@ import json
 import os
 import sqlite3
 import time
+from collections import deque
 from collections.abc import Iterator, Mapping, Sequence
 from dataclasses import dataclass, field
 from pathlib import Path
-from typing import Any
+from typing import Any, NamedTuple
 
 from .devices import Call, DeviceFailed, Outcome, Verdict
 from .documents import Document, DocumentError, PathLike
@@ -25,13 +26,16 @@ from .position import Frozen, Place, Position
 from .takeover import Journal, is_database
 
 APPLICATION = 0x726F6D61
-"""What marks a database as one of this client."""
+"""The application ID of a database of this client."""
 
 VERSION = 1
 """The version of the schema."""
 
+COMMITS = 8
+"""The number of recent commits of which the quickest one is the pace of the disk."""
+
 HISTORY = 100_000
-"""How many calls, and how many changes, the history keeps."""
+"""The most calls, and the most changes, in the history."""
 
 SCHEMA = """
 CREATE TABLE home (
@@ -86,16 +90,15 @@ CREATE TABLE changes (
 """
 
 SERVED, RECORDED, FAILED, NOT_DONE, IN_DOUBT = "served", "recorded", "failed", "not done", "in doubt"
-"""What may come of a call. That of one that is under way is NULL."""
+"""The results of a call. The result of one that is under way is NULL."""
 
 Kept = Done | Call
-"""What is kept for the key of a request: how it was served, or the call that is in doubt."""
+"""The value that is stored for the key of a request: how it was served, or the call that is in doubt."""
 
 
-@dataclass(frozen=True)
-class CallBegun:
-    """A device is about to be asked. `request` is the number of the first call for the same request, `source` who
-    made it, and `reason` why the policy chose this service."""
+class CallBegun(NamedTuple):
+    """A call that is about to be made. `request` is the number of the first call for the same request, `source` names
+    its sender, and `reason` states why the policy chose this service."""
 
     call: Call
     request: int
@@ -103,9 +106,8 @@ class CallBegun:
     reason: str | None = None
 
 
-@dataclass(frozen=True)
-class CallEnded:
-    """What came of a call, with the outcome and the state of the target if it was served."""
+class CallEnded(NamedTuple):
+    """The result of a call, with the outcome and the state of the target if it was served."""
 
     number: int
     result: str
@@ -114,8 +116,7 @@ class CallEnded:
     error: str | None = None
 
 
-@dataclass(frozen=True)
-class ChangeMade:
+class ChangeMade(NamedTuple):
     """A change with its number, and the words of its line."""
 
     number: int
@@ -124,22 +125,21 @@ class ChangeMade:
     source: str | None = None
 
 
-@dataclass(frozen=True)
-class KeyKept:
-    """What is kept for a key. `dropped` are keys that aren't kept any more."""
+class KeyStored(NamedTuple):
+    """A value that is stored for a key. `dropped` are keys whose values are removed."""
 
     key: str
     kept: Kept
     dropped: tuple[str, ...] = ()
 
 
-Entry = CallBegun | CallEnded | ChangeMade | KeyKept
+Entry = CallBegun | CallEnded | ChangeMade | KeyStored
 
 
 @dataclass(frozen=True)
 class Stored:
-    """What a dispatcher goes on from: the document, the position, the call that is under way with the number of its
-    request and the failures at it, and what is kept for keys, the oldest first."""
+    """The content from which a dispatcher continues: the document, the position, the call that is under way with the
+    number of its request and that request's failures, and the values of keys, the oldest first."""
 
     document: Document
     position: Position
@@ -150,19 +150,18 @@ class Stored:
 
 
 class Store:
-    """A database that is open. `stored` is what it had when it was opened, None if it is new; `journal` is one of an
-    older form, which `begin` replaces. `first` is a number to count calls from that no other store has."""
+    """An open database. `stored` is its content when it was opened, None if it is new. `journal` is a journal of an
+    older form, which `begin` replaces. Calls are numbered from `first`, which differs between stores."""
 
     def __init__(self, path: PathLike) -> None:
-        """Opens and locks a store. Raises `StoreLocked`, `StoreBroken`, or `StoreFailed` if the file of the lock can't
-        be made."""
+        """Opens and locks a store. Raises `StoreLocked`, `StoreBroken`, or `StoreFailed` if the lock's file can't be
+        created."""
         self.path = Path(os.path.abspath(path))
         self.stored: Stored | None = None
         self.journal: Journal | None = None
-        self.first = time.time_ns() // 1000  # No call is over in a microsecond.
+        self.first = time.time_ns() // 1000  # Each call takes more than a microsecond.
         self.starts = 1
-        self.pace = 1.0
-        """How many seconds the last commit took."""
+        self._paces: deque[float] = deque([1.0], maxlen=COMMITS)
         self._database: sqlite3.Connection | None = None
         self._written = Position("", "")
         self._files: dict[str, tuple[int, int]] = {}
@@ -174,7 +173,7 @@ class Store:
             raise
 
     def _open(self) -> None:
-        """Reads what is there."""
+        """Reads the stored position."""
         if not self.path.exists():
             return
         if not is_database(self.path):
@@ -190,7 +189,7 @@ class Store:
             raise _broken(self.path, error) from error
 
     def _connect(self) -> None:
-        """Opens the database, and remembers which files it is."""
+        """Opens the database, and stores the identities of its files."""
         self._database = _connected(self.path)
         for name in (str(self.path), _lock_of(self.path)):
             found = os.stat(name)
@@ -207,7 +206,7 @@ class Store:
             raise StoreFailed(f"{self.path}: {error}") from error
 
     def begin(self, stored: Stored) -> None:
-        """Makes the database. A journal of an older form is kept beside it, with the ending `.old`. Raises
+        """Creates the database. A journal of an older form is kept beside it, with the ending `.old`. Raises
         `StoreFailed`."""
         fresh = Path(f"{self.path}.new")
         try:
@@ -232,40 +231,62 @@ class Store:
         self.stored, self.journal, self._written = stored, None, stored.position
 
     def _fill(self, database: sqlite3.Connection, stored: Stored) -> None:
-        """Writes all that a new database has."""
+        """Writes the first content of a new database."""
         value = json.dumps(stored.document.value)
         row = (1, value, "", "", 0, 0, 0, self.first, self.starts)
         database.execute("INSERT INTO home VALUES (?, ?, ?, ?, ?, ?, ?, ?, ?)", row)
         _write_position(database, Position("", ""), stored.position)
         for key, kept in stored.keys.items():
-            _write_entry(database, KeyKept(key, kept))
+            _write_entry(database, KeyStored(key, kept))
         if stored.under_way is not None:
             _write_entry(database, CallBegun(stored.under_way, stored.request))
 
     def commit(self, position: Position, entries: Sequence[Entry]) -> None:
-        """Writes the position and what has happened, and returns when they are on the disk. An entry that has been
-        written already changes nothing. Raises `StoreFailed`."""
+        """Writes the position and the entries, and returns when they are on the disk. An entry that is written again
+        changes nothing. Raises `StoreFailed`."""
         database = self._connection()
         self._check_there()
         begun = time.perf_counter()
         try:
-            with _transaction(database):
-                for entry in entries:
-                    _write_entry(database, entry)
-                _write_position(database, self._written, position)
+            if len(entries) == 1 and isinstance(entries[0], CallBegun) and self._has_only_called(position):
+                _write_begun(database, entries[0])  # A single statement is a transaction by itself.
+            else:
+                self._write(database, position, entries)
         except sqlite3.Error as error:
             raise StoreFailed(f"{self.path}: {error}") from error
         self._written = position
-        self.pace = time.perf_counter() - begun
+        self._paces.append(time.perf_counter() - begun)
+
+    def _write(self, database: sqlite3.Connection, position: Position, entries: Sequence[Entry]) -> None:
+        """Writes in one transaction."""
+        database.execute("BEGIN IMMEDIATE")
+        try:
+            for entry in entries:
+                _write_entry(database, entry)
+            _write_position(database, self._written, position)
+            database.execute("COMMIT")
+        except BaseException:
+            if database.in_transaction:
+                database.execute("ROLLBACK")
+            raise
+
+    def _has_only_called(self, position: Position) -> bool:
+        """Whether only the number of the newest call has changed, which is also in the history."""
+        return position._replace(calls=self._written.calls) == self._written
+
+    @property
+    def pace(self) -> float:
+        """How many seconds the quickest of the last commits took. Other work may have slowed down the rest."""
+        return min(self._paces)
 
     def last_calls(self) -> dict[str, int]:
-        """The number of the last call of each service, as far as the history has it."""
+        """The number of the last call of each service that has one in the history."""
         if self._database is None:
             return {}
         return dict(self._database.execute("SELECT service, max(number) FROM calls GROUP BY service"))
 
     def _check_there(self) -> None:
-        """Raises `StoreFailed` if a file was removed or replaced: then another dispatcher may be at work."""
+        """Raises `StoreFailed` if a file was removed or replaced, since another dispatcher may be at work then."""
         for name, file in self._files.items():
             try:
                 found = os.stat(name)
@@ -298,7 +319,7 @@ def _lock_of(path: Path) -> str:
 
 
 def _locked(path: Path) -> int:
-    """The lock of a store, which ends with this process at the latest."""
+    """Locks a store, until this process ends at the latest. Returns the file of the lock."""
     name = _lock_of(path)
     try:
         lock = os.open(name, os.O_RDWR | os.O_CREAT | os.O_CLOEXEC, 0o644)
@@ -313,7 +334,7 @@ def _locked(path: Path) -> int:
 
 
 def _connected(path: Path) -> sqlite3.Connection:
-    """A connection for the one writer."""
+    """A connection that may write."""
     database = sqlite3.connect(path, isolation_level=None, check_same_thread=False)
     try:
         database.execute("PRAGMA journal_mode = WAL")
@@ -325,26 +346,14 @@ def _connected(path: Path) -> sqlite3.Connection:
 
 
 @contextlib.contextmanager
-def reading(path: PathLike) -> Iterator[sqlite3.Connection]:
-    """A connection that only reads, also while a dispatcher is at work. Raises `StoreBroken`."""
+def open_read_only(path: PathLike) -> Iterator[sqlite3.Connection]:
+    """A read-only connection, which can be opened while a dispatcher is at work. Raises `StoreBroken`."""
     place = Path(os.path.abspath(path))
     try:
         with contextlib.closing(sqlite3.connect(f"{place.as_uri()}?mode=ro", uri=True)) as database:
             yield database
     except sqlite3.Error as error:
         raise _broken(place, error) from error
-
-
-@contextlib.contextmanager
-def _transaction(database: sqlite3.Connection) -> Iterator[None]:
-    database.execute("BEGIN IMMEDIATE")
-    try:
-        yield
-        database.execute("COMMIT")
-    except BaseException:
-        if database.in_transaction:
-            database.execute("ROLLBACK")
-        raise
 
 
 def _sync_folder(path: Path) -> None:
@@ -363,7 +372,7 @@ def _broken(path: Path, error: Exception) -> StoreBroken:
 
 
 def read(database: sqlite3.Connection, path: Path) -> Stored:
-    """What a database has. Raises `StoreBroken`."""
+    """The content of a database. Raises `StoreBroken`."""
     try:
         _check_version(database)
         ((document, *numbers),) = database.execute(
@@ -375,6 +384,8 @@ def read(database: sqlite3.Connection, path: Path) -> Stored:
             for name, behaviour, state, loose, frozen in rows
         }
         target, environment, served, calls, changes = numbers
+        ((newest,),) = database.execute("SELECT max(number) FROM calls")
+        calls = max(calls, newest or 0)
         position = Position(target, environment, places, served, calls, changes)
         keys = {
             key: _kept_of(json.loads(answer))
@@ -398,7 +409,7 @@ def _check_version(database: sqlite3.Connection) -> None:
 
 
 def _open_call(database: sqlite3.Connection) -> tuple[Call | None, int, tuple[Failure, ...]]:
-    """The call that is under way, the number of its request, and the failures at that before."""
+    """The call that is under way, the number of its request, and the earlier failures of that request."""
     row = database.execute(
         "SELECT service, action, requested, number, key, request FROM calls WHERE result IS NULL"
     ).fetchone()
@@ -417,7 +428,7 @@ def _open_call(database: sqlite3.Connection) -> tuple[Call | None, int, tuple[Fa
 
 
 def _write_position(database: sqlite3.Connection, before: Position, now: Position) -> None:
-    """Writes what has changed of a position."""
+    """Writes the changes of a position."""
     database.execute(
         "UPDATE home SET target = ?, environment = ?, served = ?, calls = ?, changes = ?",
         (now.target, now.environment, now.served, now.calls, now.changes),
@@ -440,7 +451,7 @@ def _write_position(database: sqlite3.Connection, before: Position, now: Positio
 
 
 def _write_entry(database: sqlite3.Connection, entry: Entry) -> None:
-    """Writes something that has happened."""
+    """Writes an entry of the history."""
     if isinstance(entry, CallBegun):
         _write_begun(database, entry)
     elif isinstance(entry, CallEnded):
@@ -448,33 +459,40 @@ def _write_entry(database: sqlite3.Connection, entry: Entry) -> None:
         database.execute(
             "UPDATE calls SET ended = ?, result = ?, state = ?, environment = ?, target = ?, error = ? "
             "WHERE number = ?",
-            (time.time(), entry.result, state, environment, entry.target, entry.error, entry.number),
+            (time.time(), entry.result, state, environment, entry.target, storable(entry.error), entry.number),
         )
+        if entry.number > HISTORY:
+            database.execute("DELETE FROM calls WHERE number <= ?", (entry.number - HISTORY,))
     elif isinstance(entry, ChangeMade):
         cause = None if entry.cause is None else entry.cause.value
-        row = (entry.number, time.time(), " ".join(entry.words), cause, entry.source)
+        row = (entry.number, time.time(), " ".join(entry.words), cause, storable(entry.source))
         database.execute("INSERT OR REPLACE INTO changes VALUES (?, ?, ?, ?, ?)", row)
-        database.execute("DELETE FROM changes WHERE number <= ?", (entry.number - HISTORY,))
+        if entry.number > HISTORY:
+            database.execute("DELETE FROM changes WHERE number <= ?", (entry.number - HISTORY,))
     else:
         for key in entry.dropped:
             database.execute("DELETE FROM keys WHERE key = ?", (key,))
-        # A key that is kept anew becomes the youngest one.
+        # A key that is stored again becomes the newest one.
         answer = json.dumps(_kept_to_json(entry.kept), separators=(",", ":"))
         database.execute("INSERT OR REPLACE INTO keys (key, answer) VALUES (?, ?)", (entry.key, answer))
 
 
 def _write_begun(database: sqlite3.Connection, entry: CallBegun) -> None:
     call = entry.call
-    row = (call.number, entry.request, call.request, call.action, call.service, call.key, entry.source, entry.reason)
+    row = (call.number, entry.request, call.request, call.action, call.service, call.key)
     database.execute(
         "INSERT OR REPLACE INTO calls (number, request, requested, action, service, key, source, reason, begun) "
         "VALUES (?, ?, ?, ?, ?, ?, ?, ?, ?)",
-        (*row, time.time()),
+        (*row, storable(entry.source), storable(entry.reason), time.time()),
     )
-    database.execute("DELETE FROM calls WHERE number <= ?", (call.number - HISTORY,))
 
 
-# What is kept for keys, as JSON.
+def storable(text: str | None) -> str | None:
+    """A text with question marks in place of single surrogates, which JSON may have and UTF-8 can't encode."""
+    return None if text is None else text.encode(errors="replace").decode()
+
+
+# The values of keys, as JSON.
 
 
 def _kept_to_json(kept: Kept) -> dict[str, Any]:
@@ -496,5 +514,5 @@ def _kept_of(value: Any) -> Kept:
 
 
 def result_of(verdict: Verdict) -> str:
-    """What came of a call, by what was found out."""
+    """The result of a call that was under way, by the verdict on it."""
     return {Verdict.DONE: SERVED, Verdict.NOT_DONE: NOT_DONE, Verdict.IN_DOUBT: IN_DOUBT}[verdict]

@@ -198,7 +198,7 @@ class Replay:
             self._open = True
         yield Tell(protocol.use(call.service))
         self.under_way = call
-        self.position = replace(self.position, calls=call.number)
+        self.position = self.position._replace(calls=call.number)
         if not again:
             self.request, self.failures = call.number, []
 
@@ -211,7 +211,7 @@ class Replay:
         place = replace(self.position.places[call.service], state=state)
         position = self.position.with_place(call.service, place)
         served = position.served + 1
-        self.position = replace(position, target=move.target, environment=move.environment, served=served)
+        self.position = position._replace(target=move.target, environment=move.environment, served=served)
         self.under_way, self._open = None, False
         failures, self.failures = tuple(self.failures), []
         self._keep(call, Done(call.request, call.service, state, move.target, move.environment, failures))

@@ -1,4 +1,4 @@
-"""Who may use the page, by its tokens."""
+"""Access to the page by tokens."""
 
 from __future__ import annotations
 
@@ -29,7 +29,7 @@ LONGEST_TOKEN = 1024
 
 
 class Role(Enum):
-    """What the holder of a token may do: see everything, or change it, too."""
+    """The permissions of a token: to see everything, or to change it, too."""
 
     WATCH = "watch"
     OPERATE = "operate"
@@ -40,7 +40,7 @@ class TooManyGuesses(Exception):
 
 
 class Access:
-    """The tokens of a page. Without one everybody may operate it."""
+    """The tokens of a page. A page without tokens may be operated without one."""
 
     def __init__(self, operate: str | None, watch: str | None) -> None:
         self.is_open = operate is None
@@ -49,7 +49,7 @@ class Access:
         self._wrong: deque[str] = deque(maxlen=ADDRESSES)
 
     def role(self, shown: str, address: str) -> Role | None:
-        """The role of one who shows a token. None if it is wrong. Raises TooManyGuesses."""
+        """The role of a token, or None if the token is wrong. Raises TooManyGuesses."""
         guesses = self._guesses_of(address)
         if guesses.is_empty:
             raise TooManyGuesses

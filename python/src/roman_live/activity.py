@@ -2,32 +2,41 @@
 
 from __future__ import annotations
 
+from collections.abc import Callable
 from dataclasses import dataclass, field
 
 from roman_client import Call, Chosen, Failure
 from roman_client.policies import Choice
 
-from .askers import reason
 from .config import PolicyName
-from .errors import Moved, check_files
+from .errors import MovedMeanwhile, check_files
 from .policies import Choose
+from .sources import reason
 
 
 @dataclass
 class Activity:
     """The service that was `chosen` for the open request, until its answer comes; the call that is under way, and
-    since when; the failures at that request; the reason of the last choice; and how many changes that devices
-    reported come before the next choice."""
+    since when; the failures at that request; the reason of the last choice; and whether a change that a device
+    reported comes before the next choice."""
 
     chosen: str | None = None
     call: tuple[Call, str] | None = None
     failures: list[Failure] = field(default_factory=list)
     reason: str = ""
-    moving: int = 0
+    is_moving: Callable[[], bool] = lambda: False
+    is_ahead: bool = False
+    """Whether a service was chosen for the next request while the end of the last one isn't written."""
+
+    def asked(self, call: Call, since: str) -> None:
+        """The chosen service is asked."""
+        self.call, self.is_ahead = (call, since), False
 
     def ended(self) -> None:
-        """The call has come to its end."""
-        self.call = self.chosen = None
+        """Ends the call. A service that was chosen since then stays so."""
+        self.call = None
+        if not self.is_ahead:
+            self.chosen = None
 
 
 class Chooser:
@@ -39,16 +48,17 @@ class Chooser:
         self._activity = activity
 
     async def __call__(self, choice: Choice) -> Chosen:
-        """The chosen service, with the reason for the history. Raises `Moved`, and `NoRoom` if no device can be asked
-        for want of files."""
+        """The chosen service, with the reason for the history. Raises `MovedMeanwhile`, and
+        `NoSpace` if no device can be asked for want of files."""
         self._check()
         check_files()
         service = await self.policy(choice)
         self._check()
         self._activity.chosen = service
+        self._activity.is_ahead = self._activity.call is not None
         self._activity.reason = reason(choice, PolicyName(self._name))
         return Chosen(service, f"{self._name}, of {', '.join(choice.offered)}")
 
     def _check(self) -> None:
-        if self._activity.moving:
-            raise Moved("something moved by itself")
+        if self._activity.is_moving():
+            raise MovedMeanwhile("something moved by itself")

@@ -7,15 +7,22 @@ import logging
 from collections.abc import Coroutine
 from typing import Any, TypeVar
 
-from .errors import TROUBLE
+from .errors import TEMPORARY_ERRORS
 
 LOG = logging.getLogger("roman_live")
 
 Value = TypeVar("Value")
 
 
+async def finished(work: Coroutine[Any, Any, Value]) -> Value:
+    """The value of a coroutine that goes on if its caller is cancelled. Then its error is dropped."""
+    task = asyncio.ensure_future(work)
+    task.add_done_callback(lambda task: task.cancelled() or task.exception())
+    return await asyncio.shield(task)
+
+
 class Background:
-    """Tasks that nobody waits for. They are cancelled by `close`."""
+    """Tasks in the background, which `close` cancels."""
 
     def __init__(self) -> None:
         self._tasks: set[asyncio.Task[Any]] = set()
@@ -30,7 +37,7 @@ class Background:
     def _ended(self, task: asyncio.Task[Any]) -> None:
         self._tasks.discard(task)
         error = None if task.cancelled() else task.exception()
-        if error is not None and not isinstance(error, TROUBLE):
+        if error is not None and not isinstance(error, TEMPORARY_ERRORS):
             LOG.error("an unexpected error", exc_info=error)
 
     async def close(self) -> None:

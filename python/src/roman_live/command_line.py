@@ -13,7 +13,7 @@ from collections.abc import Sequence
 
 from roman_client import RomanError
 
-from .asking import ask
+from .ask_command import ask
 from .config import HomeFile, HomeFileError
 from .history import as_json, as_text, entries, time_of
 from .home import Home
@@ -102,11 +102,11 @@ def main(words: Sequence[str] | None = None) -> int:
         complain(error)
         return FAILED
     except KeyboardInterrupt:
-        return INTERRUPTED  # Whoever asked waits no more; the request goes on.
+        return INTERRUPTED  # The request continues without its caller.
 
 
 async def begun(file: HomeFile, simulate: bool, ending: asyncio.Event) -> Home | None:
-    """Starts a home. None if it is to end before that is done, since a device takes its time."""
+    """Starts a home. None if it is to end before it has started."""
     beginning = asyncio.ensure_future(Home.start(file, simulate=simulate))
     ended = asyncio.ensure_future(ending.wait())
     await asyncio.wait({beginning, ended}, return_when=asyncio.FIRST_COMPLETED)
@@ -120,7 +120,7 @@ async def begun(file: HomeFile, simulate: bool, ending: asyncio.Event) -> Home |
 
 
 async def run(file: HomeFile, simulate: bool) -> None:
-    """Runs a home until it is ended: by SIGTERM, by SIGINT, or by SIGHUP, where its terminal is closed."""
+    """Runs a home until SIGTERM, SIGINT or SIGHUP ends it. A closed terminal sends SIGHUP."""
     ending = asyncio.Event()
     ends = [signal.SIGTERM, signal.SIGINT]
     if signal.getsignal(signal.SIGHUP) != signal.SIG_IGN:  # It is below nohup.
@@ -130,16 +130,16 @@ async def run(file: HomeFile, simulate: bool) -> None:
     home = await begun(file, simulate, ending)
     if home is None:
         return
-    server = Server(home, file.page)
+    server, intake = Server(home, file.page), MqttRequests(home)
     try:
-        await MqttRequests(home).begin()
+        await intake.begin()
         await server.begin()
         supervisor = Supervisor()
         supervisor.ready(server.url)
         if supervisor.listens:
-            home.shown.listener = supervisor.status
+            home.view.listener = supervisor.status
             home.dirty.set()
-        opening = await home.shown.opening()
+        opening = await home.view.opening()
         if opening is not None:
             LOG.warning("%s", opening)
         greet(f"{file.document.name} is at {server.url}/")
@@ -152,5 +152,6 @@ async def run(file: HomeFile, simulate: bool) -> None:
             logging.shutdown()
             os._exit(DONE)
     finally:
+        await intake.close()
         await server.close()
         await home.close()

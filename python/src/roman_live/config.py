@@ -7,7 +7,7 @@ import os
 import ssl
 import stat
 from collections.abc import Callable, Mapping
-from dataclasses import dataclass, field
+from dataclasses import dataclass, field, replace
 from enum import Enum
 from functools import partial
 from pathlib import Path
@@ -21,7 +21,7 @@ from .limits import Limits
 from .tables import HomeFileError as HomeFileError
 from .tables import (
     Table,
-    Unusable,
+    UnusableValue,
     first_line,
     flag,
     function,
@@ -40,6 +40,9 @@ from .toml_lines import located
 LONGEST_HORIZON = 64
 """The most requests that `advise` looks ahead."""
 
+
+IN_PROCESS = "in process"
+"""The program of a home whose session runs within its own process."""
 
 LATE = ("failure", "doubt")
 """What a device that is late has done: nothing that counts, or perhaps its call."""
@@ -85,7 +88,7 @@ class Tls:
     key: Path | None = None
 
     def context(self) -> ssl.SSLContext:
-        """What a connection is made with. Raises OSError where one of the files is none, or can't be read."""
+        """The TLS context of a connection. Raises OSError if a file is missing or can't be read."""
         context = ssl.create_default_context(cafile=self.ca)
         if self.certificate is not None:
             context.load_cert_chain(self.certificate, self.key, password="")
@@ -137,11 +140,13 @@ class CommandReach:
 
 @dataclass(frozen=True)
 class PythonReach:
-    """A function or a device of a Python module."""
+    """A function or a device of a Python module. A `quick` one is called in the thread of the home, and has no
+    deadline."""
 
     module: str
     name: str
     folder: Path
+    quick: bool = False
 
 
 Reach = Union[MqttReach, HttpReach, CommandReach, PythonReach, Map]
@@ -196,7 +201,8 @@ class Sensor:
 
 @dataclass(frozen=True)
 class HomeFile:
-    """What a home file says. All paths are whole. A reply of the program may take `program_seconds`."""
+    """What a home file says. All paths are whole. A reply of the program may take `program_seconds`. If `in_process`,
+    the session runs by libroman, and the program looks only for remedies and advice."""
 
     path: Path
     document: Path
@@ -210,6 +216,7 @@ class HomeFile:
     environment: Sensor | None = None
     words: Words = field(default_factory=Words)
     limits: Limits = field(default_factory=Limits)
+    in_process: bool = False
 
     @classmethod
     def read(cls, path: Union[str, os.PathLike[str]]) -> HomeFile:
@@ -243,10 +250,11 @@ def _home_file(path: Path, table: Table) -> HomeFile:
     """The home as the file describes it, with usual values for what is wrong."""
     folder = path.parent
     usual: Broker | None = Broker()
+    usual_program = os.environ.get("ROMAN", "roman")
     home = HomeFile(
         path,
         table.attempt(lambda: folder / table.need("document", text, 'document = "home.json"'), folder),
-        table.take("program", text, os.environ.get("ROMAN", "roman")),
+        table.take("program", text, usual_program),
         table.attempt(lambda: _policy(table.table("policy"), folder), Policy()),
         table.attempt(lambda: _journal(table.table("journal"), folder), None),
         table.attempt(lambda: _page(table.table("page"), folder), Page()),
@@ -259,11 +267,11 @@ def _home_file(path: Path, table: Table) -> HomeFile:
     )
     table.end()
     table.attempt(lambda: _check_topics(home), None)
-    return home
+    return replace(home, program=usual_program, in_process=True) if home.program == IN_PROCESS else home
 
 
 def _check_topics(home: HomeFile) -> None:
-    """Raises HomeFileError where a topic is named and there is no broker, or where it has two uses: then it can't
+    """Raises HomeFileError if a topic is named without a broker, or has two uses: then it can't
     be told whose question or answer comes on it."""
     own = ("requests", "answers", "environment", "state")
     taken = {} if home.mqtt is None else {f"{home.mqtt.prefix}/{each}": "one of mqtt.prefix" for each in own}
@@ -291,7 +299,7 @@ def _policy(table: Table | None, folder: Path) -> Policy:
     requests = table.take("requests", whole(1, LONGEST_HORIZON), None)
     table.end()
     if table.is_wrong:
-        raise Unusable()
+        raise UnusableValue()
     if choose in (PolicyName.LEAST_COST, PolicyName.LEAST_WORST):
         if costs is None:
             raise table.wrong("costs", f"is missing, which {choose.value!r} needs: a file of costs")
@@ -415,6 +423,8 @@ def _device(devices: Table, name: str, value: Any, folder: Path) -> DeviceEntry:
     title, room = table.take("title", text, None), table.take("room", text, None)
     reach = _READERS[kind](table, folder)
     table.end()
+    if limit is not None and isinstance(reach, PythonReach) and reach.quick:
+        raise table.wrong("seconds", "is there, and quick is true: a quick device has no deadline")
     return DeviceEntry(reach, limit, repeat, late == "doubt", poll, title, room)
 
 
@@ -471,7 +481,7 @@ def _command(table: Table, folder: Path) -> Reach:
 
 def _python(table: Table, folder: Path) -> Reach:
     module, name = table.need("call", function, 'call = "lamps:ceiling"')
-    return PythonReach(module, name, folder)
+    return PythonReach(module, name, folder, table.take("quick", flag, False))
 
 
 _READERS: Mapping[str, Callable[[Table, Path], Reach]] = {

@@ -38,7 +38,7 @@ class Discovery:
         self._published.clear()
 
     def hear_status(self, payload: bytes, retained: bool) -> None:
-        """Home Assistant says that it is there."""
+        """Publishes all messages again when Home Assistant has started."""
         if payload == b"online":
             self.forget()
 
@@ -99,7 +99,7 @@ class Discovery:
         }
 
     def _service(self, service: str) -> Entity:
-        """A sensor of a service: its state, and as attributes its status and what went wrong."""
+        """A sensor of a service: its state, with its status and its last error as attributes."""
         entry = self._file.devices.get(service)
         found = f"(value_json.services | default({{}}))[{json.dumps(service)}]"
         return {
@@ -109,7 +109,7 @@ class Discovery:
         }
 
     def _environment(self) -> Iterator[tuple[str, str, Entity]]:
-        """A select for the environment, or a sensor if a device says it."""
+        """A select for the environment, or a sensor if a device reports it."""
         shown = self._sensor("Environment", "value_json.environment")
         if self._file.environment is not None:
             yield "sensor", "environment", shown

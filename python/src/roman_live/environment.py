@@ -1,4 +1,4 @@
-"""The environment, as a sensor sees it."""
+"""The state of the environment, from a sensor."""
 
 from __future__ import annotations
 
@@ -12,7 +12,7 @@ from .mqtt_api import Connection
 
 
 class EnvironmentSensor:
-    """A device that says the state of the environment. It is the listener of what it is reached by."""
+    """A device that reports the state of the environment. It listens to its reach."""
 
     def __init__(
         self,
@@ -26,11 +26,11 @@ class EnvironmentSensor:
         self._seconds = sensor.seconds
         self._moved = moved
         self._said = said
-        self.reach = make_mapped("environment", sensor.map, self, broker, lambda call: ())
+        self.reach = make_mapped("environment", sensor.map, self, broker, lambda call: (), sensor.seconds)
         self.state: str | None = None
 
     async def ask(self) -> None:
-        """Asks the sensor for the state."""
+        """Reads the state."""
         try:
             async with asyncio.timeout(self._seconds):
                 answer = await self.reach.tell(None)

@@ -1,37 +1,40 @@
-"""What keeps a home from something."""
+"""Errors of a home."""
 
 from __future__ import annotations
 
+import contextlib
 import errno
+import fcntl
 import os
+import resource
 import ssl
 
 from aiohttp import ClientConnectorCertificateError, ClientConnectorError
 
 from roman_client import RomanError
 
-TROUBLE = (RomanError, OSError)
-"""What may keep the home from something for a while: an OSError comes where the program can't be started, too."""
+TEMPORARY_ERRORS = (RomanError, OSError)
+"""Errors that may pass by themselves. A program that can't be started raises OSError."""
 
 
 FILES = 12
-"""How many files a device may need for a call: a command needs three pipes, and some at its start."""
+"""The most files that a call of a device opens: a command needs three pipes, and some more at its start."""
 
 
 class Busy(RomanError):
     """A request is open."""
 
 
-class Crowded(RomanError):
+class TooManyRequests(RomanError):
     """Too many requests are open."""
 
 
 class UnknownAction(RomanError):
-    """No action with that name may be requested."""
+    """The document has no action with that name."""
 
 
-class Moved(RomanError):
-    """Something moved by itself while a service was chosen."""
+class MovedMeanwhile(RomanError):
+    """A service or the environment moved by itself while a service was chosen."""
 
 
 class Expired(RomanError):
@@ -42,63 +45,69 @@ class Cancelled(RomanError):
     """A request was cancelled while it waited for its turn."""
 
 
-class Ending(RomanError):
-    """The home is about to end, and takes no requests any more."""
+class HomeEnding(RomanError):
+    """The home is about to end, and refuses requests."""
 
 
 class NoProgram(RomanError):
     """The program can't be started, or says nothing."""
 
 
-class Nobody(RomanError):
-    """No home answers."""
+class NoHome(RomanError):
+    """No home answers at the address."""
 
 
 class NoPage(RomanError):
-    """The page can't be where the home file says."""
+    """The page can't listen at the address of the home file."""
 
 
-class NoRoom(RomanError):
-    """A file that the home needs can't be read or written now, as on a full disk."""
+class NoSpace(RomanError):
+    """A file of the home can't be read or written for now, as on a full disk."""
 
 
-class Nowhere(RomanError):
-    """A device says that it, or the environment, is in a state that the document hasn't."""
+class UnknownState(RomanError):
+    """A device reports a state of itself or of the environment that the document doesn't have."""
 
 
 class NoDevice(RomanError):
     """The home file doesn't say how a service is reached."""
 
 
-def check_want(error: OSError) -> None:
-    """Raises NoRoom if an error means that the system gives no more files now. That is no failure of a device."""
+def check_file_limit(error: OSError) -> None:
+    """Raises NoSpace if an error means that the system gives no more files now. That is no failure of a device."""
     if error.errno in (errno.EMFILE, errno.ENFILE):
-        raise NoRoom(in_words(error)) from None
+        raise NoSpace(system_text(error)) from None
 
 
 def check_files() -> None:
-    """Raises NoRoom if there aren't enough files now to ask a device."""
+    """Raises NoSpace if there aren't enough files now to ask a device. Files are given the lowest free numbers, so
+    there are enough if the number so far below the limit is free. If it isn't, it is tried."""
+    lowest = max(0, resource.getrlimit(resource.RLIMIT_NOFILE)[0] - FILES)
     held: list[int] = []
     try:
-        for _ in range(FILES):
-            held.append(os.open(os.devnull, os.O_RDONLY | os.O_CLOEXEC))
+        held.append(os.open(os.devnull, os.O_RDONLY | os.O_CLOEXEC))
+        with contextlib.suppress(OSError):
+            held.append(fcntl.fcntl(held[0], fcntl.F_DUPFD_CLOEXEC, lowest))
+        if held[-1] != lowest:
+            while len(held) < FILES:
+                held.append(os.dup(held[0]))
     except OSError as error:
-        check_want(error)
+        check_file_limit(error)
         raise
     finally:
         for each in held:
             os.close(each)
 
 
-def unreached(error: ClientConnectorError) -> str:
+def connection_error(error: ClientConnectorError) -> str:
     """Why there is no connection, in the words of the system."""
     if isinstance(error, ClientConnectorCertificateError):
         why = error.certificate_error
         return f"its certificate isn't believed: {getattr(why, 'verify_message', why)}"
-    return in_words(error.os_error)
+    return system_text(error.os_error)
 
 
-def in_words(error: OSError) -> str:
+def system_text(error: OSError) -> str:
     """An error in the words of the system, without what the library adds."""
     if isinstance(error, ssl.SSLError):
         return f"TLS: {(error.reason or str(error)).replace('_', ' ').lower()}"

@@ -1,4 +1,4 @@
-"""What happened, newest last, for whoever listens."""
+"""The events of a home, and the listeners of them."""
 
 from __future__ import annotations
 
@@ -18,10 +18,10 @@ from .limits import Bucket
 LOG = logging.getLogger("roman_live")
 
 FROM_OUTSIDE = ("late", "wrong")
-"""The kinds of events that a device or a stranger can bring about at will."""
+"""The kinds of events that a device or a stranger can cause at will."""
 
 BURST = 20
-"""How many of these may come at once from a service. After that one a second is kept."""
+"""How many of these a service may cause at once. After that, one a second is added."""
 
 KEPT = 200
 """How many events are kept."""
@@ -33,11 +33,11 @@ LONGEST_MARK = 64
 """The most letters of the mark of an event."""
 
 BEHIND = 1000
-"""How many messages may wait for a listener, before it is let go."""
+"""The most messages that may wait for a listener. If more come, it is removed."""
 
 
 BETWEEN_WRITES = 0.05
-"""How many seconds pass at least between two writes to a listener."""
+"""The fewest seconds between two writes to a listener."""
 
 
 def now() -> str:
@@ -68,7 +68,7 @@ class Event:
 
 @dataclass(frozen=True)
 class Message:
-    """What a listener is sent: `event` or `state`, its JSON, and the mark of an event."""
+    """A message to listeners: `event` or `state`, its JSON, and the mark of an event."""
 
     name: str
     value: Any
@@ -82,11 +82,11 @@ class Message:
 
 
 Listener = asyncio.Queue[Optional[Message]]
-"""What waits for a listener. None says that it was let go."""
+"""The messages that wait for a listener. None means that it was removed."""
 
 
 class EventLog:
-    """The last events. They are numbered from 1 in each `run` of a home, whatever the clock does."""
+    """The newest events, numbered from 1 in each `run` of a home."""
 
     def __init__(self) -> None:
         self.run = secrets.token_hex(8)
@@ -96,7 +96,7 @@ class EventLog:
         self._buckets: dict[tuple[str, Any], Bucket] = {}
 
     def add(self, kind: str, text: str, *, level: int = logging.INFO, **details: Any) -> None:
-        """Something happened, which is logged on that level. What comes from outside too often is left out."""
+        """Adds an event, and logs it at this level. Events from outside that come too often are dropped."""
         if kind in FROM_OUTSIDE and not self._is_seldom(kind, details.get("service")):
             return
         LOG.log(level, "%s", text)
@@ -110,11 +110,11 @@ class EventLog:
         return self._buckets.setdefault((kind, service), Bucket(BURST, 1.0)).take()
 
     def message(self, event: Event) -> Message:
-        """The message that tells of an event. Its mark names the event also for other runs."""
+        """The message with an event. Its mark identifies the event across runs."""
         return Message("event", {**event.to_json(), "run": self.run}, f"{self.run}-{event.number}")
 
     def send(self, message: Message) -> None:
-        """Sends a message to all listeners. One that is far behind is let go."""
+        """Sends a message to all listeners. A listener with `BEHIND` waiting messages is removed."""
         for listener in list(self._listeners):
             if listener.qsize() >= BEHIND:
                 self._listeners.discard(listener)
@@ -123,36 +123,37 @@ class EventLog:
                 listener.put_nowait(message)
 
     def after(self, mark: str) -> list[Event]:
-        """The kept events after the one with that mark. All, if this run has none with it."""
+        """The stored events after the one with this mark. All of them, if this run has no event with the mark."""
         run, _, number = mark.partition("-")
         known = run == self.run and number.isdecimal() and len(number) <= LONGEST_NUMBER
         last = int(number) if known else 0
         return [each for each in self._kept if each.number > last or last >= self._next]
 
     def listen(self) -> Listener:
-        """A new listener."""
+        """Adds a listener."""
         listener: Listener = asyncio.Queue()
         self._listeners.add(listener)
         return listener
 
     def dismiss(self) -> None:
-        """Lets all listeners go."""
+        """Removes all listeners."""
         for listener in self._listeners:
             listener.put_nowait(None)
         self._listeners.clear()
 
     def leave(self, listener: Listener) -> None:
-        """A listener goes."""
+        """Removes a listener."""
         self._listeners.discard(listener)
 
     @property
     def listeners(self) -> int:
-        """How many listen."""
+        """The number of listeners."""
         return len(self._listeners)
 
 
 async def heard(listener: Listener, seconds: float) -> list[Message | None]:
-    """What waits for a listener. If nothing does, waits that long for something, and then gives nothing."""
+    """The messages that wait for a listener, with only the newest of the states. Waits at most that long for the first
+    one, and returns an empty list if none comes."""
     try:
         async with asyncio.timeout(seconds):
             messages = [await listener.get()]
@@ -161,4 +162,5 @@ async def heard(listener: Listener, seconds: float) -> list[Message | None]:
     await asyncio.sleep(BETWEEN_WRITES)
     while not listener.empty():
         messages.append(listener.get_nowait())
-    return messages
+    states = [each for each in messages if each is not None and each.name == "state"]
+    return [each for each in messages if each not in states[:-1]]

@@ -30,16 +30,17 @@ from .activity import Activity
 from .background import Background
 from .config import DeviceEntry, HomeFile, HomeFileError
 from .devices import Answer, Reach, Simulated
+from .devices.base import DEADLINE
 from .devices.factory import make_reach
 from .devices.maps import Map, check_map, check_states, check_words
 from .environment import EnvironmentSensor
-from .errors import TROUBLE, NoDevice, NoRoom, Nowhere
+from .errors import TEMPORARY_ERRORS, NoDevice, NoSpace, UnknownState
 from .events import EventLog
 from .moves import PAUSE, Moves
 from .mqtt_api import Connection
 from .processes import Processes
-from .recovery import Returning
-from .registry import Knowledge
+from .recovery import Retries
+from .registry import Registry
 from .toml_lines import located
 
 LOG = logging.getLogger("roman_live")
@@ -49,9 +50,6 @@ FIRST_WORD = 10.0
 
 COMPARED = 3
 """How often a device is asked for its state after the broker was gone: it may reach the broker later than the home."""
-
-DEADLINE = 10.0
-"""How many seconds a device may take, unless the home file or the device gives another number."""
 
 NO_FILES_PAUSE = 0.1
 """After how many seconds a device is asked that couldn't be for want of files."""
@@ -67,10 +65,10 @@ class HomeDevice(aio.Device):
     """A service as the dispatcher sees it."""
 
     def __init__(self, fleet: Fleet, reach: Reach, entry: DeviceEntry | None) -> None:
-        """A simulated device has no entry, and no deadline."""
+        """A simulated device has no entry, and no deadline; nor has a quick one."""
         self.reach = reach
         self.poll = None if entry is None else entry.poll
-        self.timeout = None if entry is None else entry.seconds or reach.timeout or DEADLINE
+        self.timeout = None if entry is None or reach.is_quick else entry.seconds or reach.timeout or DEADLINE
         self.repeatable = reach.repeatable or entry is not None and entry.repeat
         self.late_is_doubt = reach.late_is_doubt or entry is not None and entry.late_is_doubt
         self._fleet = fleet
@@ -80,7 +78,7 @@ class HomeDevice(aio.Device):
             try:
                 answer = await self.reach.ask(self._fleet.number(call), call)
                 return self._fleet.outcome(call, answer)
-            except NoRoom as error:
+            except NoSpace as error:
                 LOG.warning("%s can't be asked yet: %s", call.service, error)
             await asyncio.sleep(NO_FILES_PAUSE)
 
@@ -95,7 +93,7 @@ class HomeDevice(aio.Device):
 
 
 @dataclass(frozen=True)
-class Earlier:
+class EarlierRuns:
     """What earlier runs with the store left: the number that calls count from, the last call of each service, and the
     locks of their commands."""
 
@@ -110,7 +108,7 @@ class Earlier:
 
 
 def check_names(file: HomeFile, document: Document) -> None:
-    """Raises HomeFileError for a map, or a word, that names what the document hasn't."""
+    """Raises HomeFileError for a map, or a word, with a name that isn't in the document."""
     behaviours = {each.name: each.behaviour for each in document.services}
     environments = document.environment.states
     try:
@@ -134,10 +132,10 @@ class Fleet:
         file: HomeFile,
         document: Document,
         dispatcher: aio.Dispatcher,
-        known: Knowledge,
+        registry: Registry,
         activity: Activity,
         events: EventLog,
-        earlier: Earlier,
+        earlier: EarlierRuns,
         changed: Callable[[], None],
         *,
         simulate: bool,
@@ -146,7 +144,7 @@ class Fleet:
         what is shown of a service has changed. With `simulate` a person plays all services of the document. Raises
         HomeFileError."""
         self.document = document
-        self.known = known
+        self.registry = registry
         self.broker = None if file.mqtt is None or simulate else Connection(file.mqtt, self._broker_changed)
         self.sensor: EnvironmentSensor | None = None
         if file.environment is not None and not simulate:
@@ -164,7 +162,7 @@ class Fleet:
         self._turns: dict[str, asyncio.Lock] = {}
         self._coming: dict[str, Answer | None] = {}
         self.moves = Moves(self._post, activity, lambda error: events.add("wrong", str(error)))
-        self.returning = Returning(known, self.held, self.told, self.back, changed, by_hand=simulate)
+        self.retries = Retries(registry, self.held, self.told, self.back, changed, by_hand=simulate)
         for name in [each.name for each in document.services] if simulate else file.devices:
             self._add(name)
         if not simulate:
@@ -188,7 +186,7 @@ class Fleet:
     def _add(self, service: str) -> HomeDevice:
         """Makes the device of a service. Raises NoDevice if the home file has none."""
         if self._simulate:
-            device = HomeDevice(self, Simulated(service, self, lambda name: self.known[name].state), None)
+            device = HomeDevice(self, Simulated(service, self, lambda name: self.registry[name].state), None)
         else:
             entry = self._file.devices.get(service)
             if entry is None:
@@ -212,10 +210,10 @@ class Fleet:
             await self.sensor.reach.open()
 
     async def begin(self) -> None:
-        """Asks all devices for their states, waits a little for that, and watches them from then on."""
+        """Asks all devices for their states, waits a little for the answers, and starts to watch them."""
         self._ready = True
         if not self._simulate:
-            comparing = [self.background.run(self.compare(name)) for name in self.known.present()]
+            comparing = [self.background.run(self.compare(name)) for name in self.registry.present()]
             if self.sensor is not None:
                 comparing.append(self.background.run(self.sensor.ask()))
             if comparing:
@@ -223,13 +221,13 @@ class Fleet:
             for name, device in self.devices.items():
                 if device.poll is not None:
                     self.background.run(self._poll(name, device.poll))
-        self.returning.let_all(at_once=True)
+        self.retries.start_all(at_once=True)
 
     async def close(self) -> None:
         """Closes all devices."""
         self.moves.hold()
         await self.background.close()
-        await self.returning.close()
+        await self.retries.close()
 
     async def disconnect(self) -> None:
         """Closes all devices, and the connection to the broker."""
@@ -243,7 +241,7 @@ class Fleet:
     # Calls.
 
     def number(self, call: Call) -> int:
-        """The number of a call for its device, which no other call has, nor one of another store."""
+        """The number of a call for its device. It is unique among the calls of all stores."""
         return self._earlier.first + call.number
 
     @property
@@ -262,25 +260,25 @@ class Fleet:
         it can't stay. Raises DeviceFailed if that leaves a choice."""
         if answer.environment is not None:
             return answer.state, answer.environment
-        possible = self.document.environment.after(self.known.environment, call.action)
+        possible = self.document.environment.after(self.registry.environment, call.action)
         if self.sensor is not None and self.sensor.state in possible:
             return answer.state, self.sensor.state
-        if self.known.environment in possible:
-            return answer.state, self.known.environment
+        if self.registry.environment in possible:
+            return answer.state, self.registry.environment
         if len(possible) != 1:
             raise DeviceFailed(f"didn't say the environment, which may be {' or '.join(possible)}")
         return answer.state, possible[0]
 
     def outcomes(self, call: Call) -> set[Outcome]:
         """The outcomes that the document allows for a call."""
-        known = self.known[call.service]
-        environment = self.known.environment
+        known = self.registry[call.service]
+        environment = self.registry.environment
         return set(self.document.outcomes(known.behaviour, known.state, environment, call.request))
 
     # Changes by hand.
 
     def held(self) -> frozenset[str]:
-        """The services that were frozen by hand, and aren't asked back."""
+        """The services that were frozen by hand. They don't recover by themselves."""
         return self._dispatcher.core.position.frozen(Frozen.BY_HAND)
 
     async def freeze(self, service: str, source: str | None = None) -> None:
@@ -289,48 +287,48 @@ class Fleet:
             await self._dispatcher.change(protocol.freeze(service), source)
 
     async def thaw(self, service: str, source: str | None = None) -> None:
-        """Takes a service into use again: in the state that its device tells, if it does."""
+        """Takes a service into use again, in the state that its device reports, if any."""
         answer = None
-        if service in self.known and self.known[service].frozen:
+        if service in self.registry and self.registry[service].frozen:
             with contextlib.suppress(Exception):
                 answer = await self.told(service)
         async with self._turn(service):
             await self._thaw(service, answer, source)
 
     async def _thaw(self, service: str, answer: Answer | None, source: str | None) -> None:
-        """Thaws a service, with what its device says of itself and of the environment. Raises Nowhere."""
+        """Thaws a service in the states that its device reports. Raises UnknownState."""
         state = environment = None
         if answer is not None:
             state, environment = answer.state, answer.environment
             self._check_place(service, answer)
-        if environment is not None and environment != self.known.environment:
+        if environment is not None and environment != self.registry.environment:
             with contextlib.suppress(StoreFailed):  # It is written with what follows, or that says why not.
                 await self.jump_environment(environment, source)
         await self._dispatcher.thaw(service, state, source)
 
     def _turn(self, service: str) -> asyncio.Lock:
         """The lock of a service. An unknown one has none, and is refused by the program."""
-        if service not in self.known:
+        if service not in self.registry:
             return asyncio.Lock()
         return self._turns.setdefault(service, asyncio.Lock())
 
     def _check_place(self, service: str, answer: Answer) -> None:
-        """Raises Nowhere if a device names a state that the document hasn't."""
-        behaviour = self.document.behaviours[self.known[service].behaviour]
+        """Raises UnknownState if a device names a state that isn't in the document."""
+        behaviour = self.document.behaviours[self.registry[service].behaviour]
         environment = self.document.environment
         if answer.state not in behaviour.states:
             known = f"none of {behaviour.name}'s states: {', '.join(behaviour.states)}"
-            raise Nowhere(f"{service} says it is in {answer.state}, which is {known}")
+            raise UnknownState(f"{service} says it is in {answer.state}, which is {known}")
         if answer.environment is not None and answer.environment not in environment.states:
             known = f"none of its states: {', '.join(environment.states)}"
-            raise Nowhere(f"{service} says the environment is in {answer.environment}, which is {known}")
+            raise UnknownState(f"{service} says the environment is in {answer.environment}, which is {known}")
 
     async def die(self, service: str, source: str | None = None) -> None:
-        """A service is gone for good."""
+        """Removes a service for good."""
         await self._dispatcher.change(protocol.die(service), source)
 
     async def join(self, service: str, behaviour: str, state: str, loose: bool, source: str | None = None) -> None:
-        """A new service joins. Raises NoDevice if the home file doesn't say how it is reached."""
+        """Adds a service. Raises NoDevice if the home file has no device for it."""
         device = self.devices.get(service)
         if device is None:
             device = self._add(service)
@@ -338,17 +336,17 @@ class Fleet:
         await self._dispatcher.join(service, behaviour, state, device, loose=loose, source=source)
 
     async def jump(self, service: str, state: str, source: str | None = None) -> None:
-        """A service is in that state now."""
+        """Sets the state of a service."""
         await self._dispatcher.change(protocol.jump(service, state), source)
 
     async def jump_environment(self, state: str, source: str | None = None) -> None:
-        """The environment is in that state now."""
+        """Sets the state of the environment."""
         await self._dispatcher.change(protocol.jumpenv(state), source)
 
     # What devices report.
 
     def moved(self, service: str, answer: Answer) -> None:
-        known = self.known.get(service)
+        known = self.registry.get(service)
         if known is None or known.dead or not self._ready:
             return
         if known.frozen and service not in self.held():
@@ -367,7 +365,7 @@ class Fleet:
             self._activity.chosen = None
 
     def gone(self, service: str) -> None:
-        known = self.known.get(service)
+        known = self.registry.get(service)
         if known is None or known.dead or known.frozen or not self._ready:
             return
         known.last_error = "is gone"
@@ -377,20 +375,20 @@ class Fleet:
 
     def late(self, service: str, text: str) -> None:
         self._events.add("late", f"{service} {text}", service=service)
-        self.returning.poke(service)
+        self.retries.hurry(service)
 
     def environment_moved(self, state: str) -> None:
-        """The environment is in that state by itself."""
-        if state != self.known.environment or self.moves.is_open:
+        """Sets the state of the environment, which moved by itself."""
+        if state != self.registry.environment or self.moves.is_open:
             self.moves.add(ENVIRONMENT, protocol.jumpenv(state))
 
     def look_at_environment(self) -> None:
-        """Corrects the environment if the document moved it, and its sensor sees that it isn't so."""
+        """Corrects the environment if its sensor contradicts the move of the document."""
         if self.sensor is not None and self.sensor.state is not None:
             self.environment_moved(self.sensor.state)
 
     def _sensed(self, state: str) -> None:
-        """The sensor says that the environment is in that state."""
+        """Takes the state of the environment from its sensor."""
         if self._ready:
             self.environment_moved(state)
 
@@ -398,10 +396,10 @@ class Fleet:
         self._events.add("sensor", text, level=logging.INFO if well else logging.WARNING)
 
     def _place(self, service: str, answer: Answer) -> None:
-        """A service is there now by itself."""
+        """Sets the state of a service that moved by itself."""
         if answer.environment is not None:
             self.environment_moved(answer.environment)
-        if answer.state != self.known[service].state or self.moves.is_open:
+        if answer.state != self.registry[service].state or self.moves.is_open:
             self.moves.add(service, protocol.jump(service, answer.state))
 
     def _post(self, event: Event[Any]) -> asyncio.Future[Any]:
@@ -409,7 +407,7 @@ class Fleet:
         return self._dispatcher.post(event, Frozen.GONE, BY_ITSELF)
 
     async def _come_back(self, service: str, answer: Answer) -> None:
-        """A frozen service told its state. What it tells meanwhile counts after that."""
+        """Takes a frozen service back that reported its state. Later reports are made after that."""
         try:
             await self.back(service, answer)
             await asyncio.sleep(PAUSE)
@@ -423,17 +421,17 @@ class Fleet:
         self._changed()
         if not connected or not self._ready:
             return
-        self.returning.poke_all()
+        self.retries.hurry_all()
         if self.sensor is not None and self.sensor.reach.by_broker:
             self.background.run(self.sensor.ask())
-        for name in self.known.present():
+        for name in self.registry.present():
             if self.devices[name].reach.by_broker:
                 self.background.run(self.compare(name, COMPARED))
 
     # Asking for states.
 
     async def told(self, service: str) -> Answer | None:
-        """The present state of a device. Raises an exception if it doesn't tell it by its deadline."""
+        """The present state of a device. Raises an exception if the device doesn't answer in time."""
         device = self.devices[service]
         try:
             async with asyncio.timeout(device.timeout):
@@ -448,13 +446,13 @@ class Fleet:
                 return
         if self.devices[service].reach.by_broker and self.broker is not None and not self.broker.connected:
             return  # That has been said.
-        text = f"{service} doesn't tell where it is: {self.known[service].last_error}"
+        text = f"{service} doesn't tell where it is: {self.registry[service].last_error}"
         self._events.add("silent", text, level=logging.WARNING, service=service)
 
     async def _look(self, service: str) -> bool:
         """Asks a device once for its state. What it says counts for nothing if it is given a call meanwhile, whose
         answer is newer. False if it doesn't tell."""
-        known = self.known[service]
+        known = self.registry[service]
         calls = known.calls
         if known.frozen or known.dead or service == self._activity.chosen:
             return True
@@ -473,10 +471,10 @@ class Fleet:
         told = True
         while True:
             await asyncio.sleep(seconds)
-            if service in self.known:
+            if service in self.registry:
                 before, told = told, await self._look(service)
                 if before and not told:
-                    text = f"{service} doesn't tell where it is: {self.known[service].last_error}"
+                    text = f"{service} doesn't tell where it is: {self.registry[service].last_error}"
                     self._events.add("silent", text, level=logging.WARNING, service=service)
 
     async def back(self, service: str, answer: Answer) -> bool:
@@ -484,16 +482,16 @@ class Fleet:
         False if that can't be."""
         try:
             async with self._turn(service):
-                if not self.known[service].frozen or service in self.held():
+                if not self.registry[service].frozen or service in self.held():
                     return True
                 await self._thaw(service, answer, BY_ITSELF)
-        except Nowhere as error:
-            self.known[service].last_error = str(error)
+        except UnknownState as error:
+            self.registry[service].last_error = str(error)
             return False
         except (Refusal, TypeError, ValueError) as error:
-            self.known[service].last_error = f"says it is in {answer.state}: {error}"
+            self.registry[service].last_error = f"says it is in {answer.state}: {error}"
             return False
-        except TROUBLE as error:
+        except TEMPORARY_ERRORS as error:
             LOG.warning("%s can't be thawed: %s", service, error)
             return False
         self._events.add("back", f"{service} is back in {answer.state}", service=service, state=answer.state)

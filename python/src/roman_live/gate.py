@@ -46,7 +46,7 @@ class Gate:
             connection.wait()
 
     def enter(self, connection: Connection) -> bool:
-        """Gives a new connection a place. False if all are taken by requests."""
+        """Registers a new connection. False if requests occupy all places."""
         if len(self._open) >= self.limits.connections:
             oldest = next(iter(self._new or self._silent), None)
             if oldest is None:
@@ -60,7 +60,7 @@ class Gate:
         return True
 
     def leave(self, connection: Connection) -> None:
-        """A connection is closed."""
+        """Removes a closed connection."""
         self._open.pop(connection.inner, None)
         self._forget(connection)
 
@@ -80,18 +80,18 @@ class Connection(asyncio.Protocol):
         self._read = 0
 
     def serve(self) -> None:
-        """Its request is being served, which may take its time."""
+        """Marks its request as being served, so that it isn't closed."""
         self._read = 0
         if self._timer is not None:
             self._timer.cancel()
 
     def wait(self) -> None:
-        """It has to send a whole request in time."""
+        """Expects a whole request in time."""
         self.serve()
         self._timer = asyncio.get_running_loop().call_later(self._gate.limits.silence, self.end)
 
     def end(self) -> None:
-        """Closes it at once."""
+        """Closes the connection at once."""
         if self._transport is not None:
             self._transport.abort()
 

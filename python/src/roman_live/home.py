@@ -1,9 +1,10 @@
-"""A home that runs: its beginning, its end, and what the dispatcher tells of it."""
+"""A home that runs: its start, its end, and the notices of its dispatcher."""
 
 from __future__ import annotations
 
 import asyncio
 import logging
+import os
 import shutil
 import tempfile
 from collections.abc import Awaitable
@@ -32,21 +33,25 @@ from roman_client import (
 from roman_client.store import Store
 
 from .activity import Activity, Chooser
-from .askers import ASKER
-from .config import HomeFile, HomeFileError, Policy
+from .ahead import HomeDispatcher
+from .config import IN_PROCESS, HomeFile, HomeFileError, Policy, PolicyName
 from .errors import NoProgram
 from .events import EventLog, now
-from .fleet import Earlier, Fleet
+from .fleet import EarlierRuns, Fleet
 from .metrics import Metrics
 from .persisted import ANEW, GONE, check_folder, check_store
 from .policies import make_policy
 from .processes import Processes
-from .registry import Knowledge
+from .registry import Registry
 from .requests import Requests
 from .short_form import is_short, plain_costs, plain_text
-from .view import Shown
+from .sources import SOURCE
+from .view import View
 
 LOG = logging.getLogger("roman_live")
+
+STARTS = 8
+"""How often a start is tried if the program is killed meanwhile."""
 
 REFUSED = (3, 4)
 """The statuses of the program for a document that it refuses, or that is too large."""
@@ -55,7 +60,7 @@ Value = TypeVar("Value")
 
 
 @dataclass(frozen=True)
-class Opened:
+class OpenedSystem:
     """The document of a home with the session that runs it. `folder` is for temporary files."""
 
     document: Document
@@ -64,14 +69,20 @@ class Opened:
     folder: tempfile.TemporaryDirectory[str]
 
     @classmethod
-    async def open(cls, file: HomeFile) -> Opened:
+    async def open(cls, file: HomeFile) -> OpenedSystem:
         """Reads the document, and starts the program on it. Raises HomeFileError or NoProgram."""
         folder = tempfile.TemporaryDirectory(prefix="roman-live-")
         try:
             place = _plain_folder(file, Path(folder.name))
             document = Document.load(file.document.name, place)
             program = _program(file)
-            session = aio.Session(file.document.name, program=program, folder=place, timeout=file.program_seconds)
+            session = aio.Session(
+                file.document.name,
+                program=program,
+                folder=place,
+                timeout=file.program_seconds,
+                library=file.in_process and os.environ.get("ROMAN_LIBRARY", True),
+            )
             await _begin(file, session, program)
             return cls(document, session, program, folder)
         except DocumentError as error:
@@ -112,7 +123,7 @@ def _plain_policy(file: HomeFile, temporary: Path) -> Policy:
 
 
 def _program(file: HomeFile) -> str:
-    """The program. If it is a path, that counts from the home file."""
+    """The program. A relative path is resolved from the folder of the home file."""
     return str(file.path.parent / file.program) if "/" in file.program else file.program
 
 
@@ -133,6 +144,8 @@ async def _begin(file: HomeFile, session: aio.Session, program: str) -> None:
             f"{file.path}: program is {program!r}, which gave {error}; program_seconds gives it more"
         ) from None
     except OSError as error:
+        if file.in_process:
+            raise NoProgram(f"{file.path}: program is {IN_PROCESS!r}, which needs libroman: {error}") from None
         known = "/" in program or shutil.which(program) is not None
         why = f"can't be started: {error.strerror}" if known else "isn't in PATH; say there where it is"
         raise NoProgram(f"{file.path}: program is {program!r}, which {why}") from None
@@ -141,7 +154,7 @@ async def _begin(file: HomeFile, session: aio.Session, program: str) -> None:
 class Home:
     """A home that runs, from `start` to `close`."""
 
-    def __init__(self, file: HomeFile, opened: Opened, store: Store, *, simulate: bool) -> None:
+    def __init__(self, file: HomeFile, opened: OpenedSystem, store: Store, *, simulate: bool) -> None:
         """Makes the devices and all other parts. The store is locked. Raises HomeFileError."""
         self.file = file
         self.simulate = simulate
@@ -151,17 +164,17 @@ class Home:
         self.metrics = Metrics()
         self.dirty = asyncio.Event()
         self.activity = Activity()
-        self.known = Knowledge(opened.document, opened.session.opening)
+        self.registry = Registry(opened.document, opened.session.opening)
         policy = Policy() if simulate else _plain_policy(file, Path(opened.folder.name))
         choose = make_policy(policy, opened.session, opened.program, file.program_seconds)
         self.chooser = Chooser(choose, policy.choose.value, self.activity)
-        self.dispatcher = aio.Dispatcher(opened.session, {}, policy=self.chooser, store=store, watch=self._watch)
-        earlier = Earlier(store.first, store.last_calls(), Processes(Path(f"{store.path}.commands")))
+        self.dispatcher = HomeDispatcher(opened.session, {}, policy=self.chooser, store=store, watch=self._watch)
+        earlier = EarlierRuns(store.first, store.last_calls(), Processes(Path(f"{store.path}.commands")))
         self.fleet = Fleet(
             file,
             opened.document,
             self.dispatcher,
-            self.known,
+            self.registry,
             self.activity,
             self.events,
             earlier,
@@ -179,8 +192,10 @@ class Home:
             self._noticed,
             self.dirty.set,
             file.limits.waiting,
+            shares=self.fleet.sensor is None and policy.choose is not PolicyName.LEAST_WORST,
         )
-        self.shown = Shown(self)
+        self.view = View(self)
+        self.store = store.path
         self._opened = opened
         self._store = store
         self._begun = False
@@ -191,7 +206,18 @@ class Home:
     async def start(cls, file: HomeFile, *, simulate: bool = False) -> Home:
         """Starts the program, locks the store, connects to the devices, and goes on from the store. With `simulate` a
         person plays all devices, and nothing is stored. Raises HomeFileError, or the errors of the client."""
-        opened = await Opened.open(file)
+        for _ in range(STARTS - 1):
+            try:
+                return await cls._start(file, simulate)
+            except ProgramEnded as error:
+                if error.status >= 0:
+                    raise
+                LOG.warning("the program was killed at the start, which is tried again: %s", error)
+        return await cls._start(file, simulate)
+
+    @classmethod
+    async def _start(cls, file: HomeFile, simulate: bool) -> Home:
+        opened = await OpenedSystem.open(file)
         try:
             store = _open_store(file, opened, simulate)
         except BaseException:
@@ -214,7 +240,7 @@ class Home:
     async def check(cls, file: HomeFile, *, simulate: bool = False) -> None:
         """Raises what `start` would raise, as far as that is known without asking a broker or a device. It may be
         called while the home runs."""
-        opened = await Opened.open(file)
+        opened = await OpenedSystem.open(file)
         try:
             with tempfile.TemporaryDirectory(prefix="roman-live-") as folder:
                 store = Store(Path(folder) / "store")
@@ -250,8 +276,8 @@ class Home:
             raise HomeFileError(f"{self.file.path}: journal.path: {error}; {ANEW}") from None
         except ValueError as error:
             raise HomeFileError(f"{self.file.path}: {error}, which the store has; {GONE}") from None
-        self.known.take(await self.dispatcher.report())
-        for name in [each for each, known in self.known.items() if known.dead]:
+        self.registry.take(await self.dispatcher.report())
+        for name in [each for each, known in self.registry.items() if known.dead]:
             text = f"{name} isn't there by the store: it is gone, or new in the document; then let it join"
             self.events.add("missing", text, level=logging.WARNING, service=name)
         self._begun = True
@@ -260,8 +286,8 @@ class Home:
         since = f"; requests served so far: {served}" if served else ""
         self.events.add("begun", f"{self.file.document.name} runs{since}")
         if self.fleet.broker is not None:
-            self.fleet.broker.subscribe(self.fleet.broker.state_topic, self.shown.hear_state)
-        self.fleet.background.run(self.shown.publish())
+            self.fleet.broker.subscribe(self.fleet.broker.state_topic, self.view.hear_state)
+        self.fleet.background.run(self.view.publish())
 
     async def close(self) -> None:
         """Stops all parts. A request that is open is dropped, and its service is frozen."""
@@ -301,11 +327,11 @@ class Home:
         self.dirty.set()
 
     def _asked(self, call: Call) -> None:
-        self.activity.call = (call, now())
+        self.activity.asked(call, now())
         self.fleet.moves.drop(call.service)  # Its answer is newer.
-        self.known[call.service].calls += 1
+        self.registry[call.service].calls += 1
         self.metrics.asked.labels(call.service).inc()
-        asker, why = ASKER.get(), self.activity.reason
+        asker, why = SOURCE.get(), self.activity.reason
         self.events.add(
             "asked",
             f"{call.service} is asked to {call.action}{f' for {asker}' if asker else ''}{f' ({why})' if why else ''}",
@@ -317,10 +343,11 @@ class Home:
         )
 
     def _served(self, done: Done) -> None:
+        call = self.activity.call
+        self.requests.done(done, self.fleet.newest if call is None else self.fleet.number(call[0]))
         self.activity.ended()
         self.activity.failures.clear()
-        self.requests.done(done, self.fleet.newest)
-        self.known.served(done)
+        self.registry.served(done)
         self.fleet.look_at_environment()
         self.events.add(
             "served",
@@ -335,7 +362,7 @@ class Home:
         self.activity.ended()
         self.activity.failures.append(failure)
         self.metrics.failures.labels(failure.service).inc()
-        self.known.failed(failure)
+        self.registry.failed(failure)
         self.events.add(
             "failed",
             f"{failure.service} failed at {failure.action}: {failure.text}",
@@ -344,39 +371,39 @@ class Home:
             error=failure.text,
         )
         if self._begun:
-            self.fleet.returning.let(failure.service)
+            self.fleet.retries.start(failure.service)
 
     def _changed(self, words: tuple[str, ...]) -> None:
-        """A change was made, by hand or by itself."""
-        self.known.changed(words)
+        """Takes note of a change, by hand or by itself."""
+        self.registry.changed(words)
         word, service, *_ = words
         if word == "jumpenv":
             self.events.add("changed", f"the environment is {service} now", change=list(words))
             return
         if word in ("thaw", "die") or word == "freeze" and service in self.fleet.held():
-            self.fleet.returning.stop(service)
+            self.fleet.retries.stop(service)
         elif word == "freeze":
-            self.fleet.returning.let(service)
+            self.fleet.retries.start(service)
         self.events.add("changed", " ".join(words), service=service, change=list(words))
 
     def _recovered(self, recovery: Recovery) -> None:
         call, verdict = recovery.call, recovery.verdict
         if recovery.done is not None:
-            self.known.served(recovery.done)
+            self.registry.served(recovery.done)
         if verdict is Verdict.IN_DOUBT:
-            self.known[call.service].last_error = "it isn't known whether it did what it was asked"
-            self.known[call.service].frozen = True
+            self.registry[call.service].last_error = "it isn't known whether it did what it was asked"
+            self.registry[call.service].frozen = True
         text = f"{call.service} was under way at {call.request}: {verdict.value}"
         self.events.add("recovered", text, service=call.service, action=call.request, verdict=verdict.value)
 
     async def _refresh(self) -> None:
-        """Takes all states as the program has them."""
-        self.known.take(await self.reply(self.session.report()))
-        self.fleet.returning.let_all()
+        """Takes all states from the program."""
+        self.registry.take(await self.reply(self.session.report()))
+        self.fleet.retries.start_all()
         self.dirty.set()
 
 
-def _open_store(file: HomeFile, opened: Opened, simulate: bool) -> Store:
+def _open_store(file: HomeFile, opened: OpenedSystem, simulate: bool) -> Store:
     """Opens the store, and locks it. Without one in the home file it is for this run alone: the program may end before
     the home does, and goes on from it. Raises HomeFileError."""
     path = file.journal

@@ -8,7 +8,7 @@ import hashlib
 import html
 import json
 import re
-from collections.abc import Awaitable, Callable, Mapping
+from collections.abc import Awaitable, Callable, Coroutine, Mapping
 from http import HTTPStatus
 from pathlib import Path
 from typing import Any
@@ -18,16 +18,28 @@ from aiohttp import web
 
 from roman_client import InDoubt, KeyTaken, NoComposition, NotAllowed, Refusal, StoreFailed
 
+from . import events, history
 from .access import GUESSES_A_SECOND, Access, Role, TooManyGuesses
-from .askers import ASKER, name_of
+from .background import finished
 from .config import Page, is_loopback
-from .errors import TROUBLE, Busy, Cancelled, Expired, NoDevice, NoPage, Nowhere, UnknownAction, in_words
+from .errors import (
+    TEMPORARY_ERRORS,
+    Busy,
+    Cancelled,
+    Expired,
+    NoDevice,
+    NoPage,
+    UnknownAction,
+    UnknownState,
+    system_text,
+)
 from .events import LONGEST_MARK, Listener, Message, heard
 from .gate import Gate
 from .home import Home
 from .limits import LONGEST_BODY, LONGEST_NAME
 from .pictures import Picture
 from .requests import CANCELLED, EXPIRED, PATIENCE
+from .sources import SOURCE, source_of
 from .states import explanation_to_json, failures_to_json
 
 LONGEST_WAIT = 86_400
@@ -41,8 +53,11 @@ PAGE, LOGIN = (Path(__file__).resolve().parent / "page" / name for name in ("ind
 
 EVENT_STREAM = {"Content-Type": "text/event-stream", "Cache-Control": "no-store"}
 
+MOST_UNREAD = 16_384
+"""If more bytes wait for a listener, no more are written to it."""
+
 HEARTBEAT = 15.0
-"""After how many seconds without a message a listener is sent a comment, so that it sees the end."""
+"""The seconds without a message after which a listener is sent a comment, so that a lost connection is noticed."""
 
 Handler = Callable[[web.Request], Awaitable[web.StreamResponse]]
 
@@ -57,23 +72,25 @@ class Server:
         self._limits = home.file.limits
         self._access = Access(page.token, page.watch_token)
         self._picture = Picture(home.file.document)
+        self._reading = asyncio.Lock()
         self._runner: web.AppRunner | None = None
         self._gate: Gate | None = None
         self._listening: asyncio.AbstractServer | None = None
 
     async def begin(self) -> None:
-        """Begins to listen. Raises NoPage where that can't be."""
+        """Listens at the address of the page. Raises NoPage if it can't."""
         app = web.Application(client_max_size=LONGEST_BODY, middlewares=[self._guard])
         app.add_routes(
             [
+                web.post("/requests", self._post_request),  # The first is found soonest.
                 web.get("/", self._get_page),
                 web.get("/picture.svg", self._get_picture),
                 web.get("/state", self._get_state),
                 web.get("/remedies", self._get_remedies),
                 web.get("/events", self._get_events),
+                web.get("/history", self._get_history),
                 web.get("/metrics", self._get_metrics),
                 web.post("/login", self._post_login),
-                web.post("/requests", self._post_request),
                 web.delete("/requests/{key}", self._delete_request),
                 web.post("/services/{service}/{change:freeze|thaw|die|jump}", self._post_change),
                 web.post("/join", self._post_join),
@@ -91,13 +108,13 @@ class Server:
             self._listening = await loop.create_server(self._gate, self.page.host, self.page.port)
         except OSError as error:
             place = f"{self.page.host}, port {self.page.port}"
-            raise NoPage(f"{self.home.file.path}: page: it can't be at {place}: {in_words(error)}") from None
+            raise NoPage(f"{self.home.file.path}: page: it can't be at {place}: {system_text(error)}") from None
         port = self._listening.sockets[0].getsockname()[1]
         host = f"[{self.page.host}]" if ":" in self.page.host else self.page.host
         self.url = f"http://{host}:{port}"
 
     async def close(self) -> None:
-        """Stops to listen."""
+        """Stops listening."""
         self.home.events.dismiss()
         if self._listening is not None:
             self._listening.close()
@@ -105,13 +122,13 @@ class Server:
             await self._runner.server.shutdown(2.0)
             await self._runner.cleanup()
 
-    # Who may.
+    # Access.
 
     @web.middleware
     async def _guard(self, request: web.Request, handler: Handler) -> web.StreamResponse:
-        """Lets through what may be: of one who knows the token, and of the page itself."""
+        """Allows requests with a valid token, or from the page itself."""
         assert self._gate is not None
-        if request.method != "POST":  # Of others the body follows.
+        if request.method != "POST":  # The body of others follows.
             self._gate.begun(request.protocol)
         try:
             return await self._answered(request, handler)
@@ -134,7 +151,7 @@ class Server:
             slow = web.HTTPTooManyRequests(text="too many wrong tokens came from this address; wait a little")
             response = self._refused(request, slow)
             response.headers["Retry-After"] = str(round(1 / GUESSES_A_SECOND))
-        except TROUBLE as error:
+        except TEMPORARY_ERRORS as error:
             response = _json({"error": str(error)}, HTTPStatus.SERVICE_UNAVAILABLE)
         if not response.prepared:
             response.headers.setdefault("Cache-Control", "no-store")
@@ -194,7 +211,7 @@ class Server:
         if foreign or site not in ("same-origin", "none"):
             raise web.HTTPForbidden(text="only this home's own page may change it")
 
-    # What it gives.
+    # Reading.
 
     async def _get_page(self, request: web.Request) -> web.Response:
         text = PAGE.read_text(encoding="utf-8")
@@ -214,14 +231,24 @@ class Server:
         return await self._state()
 
     async def _get_remedies(self, request: web.Request) -> web.Response:
-        return _json(await self.home.shown.remedies())
+        return _json(await self.home.view.remedies())
+
+    async def _get_history(self, request: web.Request) -> web.Response:
+        """A page of the history. Only one is read at a time, in a thread."""
+        service = request.query.get("service")
+        async with self._reading:
+            try:
+                shown = await asyncio.to_thread(history.page, self.home.store, service, request.query.get("before", ""))
+            except ValueError as error:
+                raise web.HTTPBadRequest(text=str(error)) from None
+        return _json(shown)
 
     async def _get_metrics(self, request: web.Request) -> web.Response:
-        text = await self.home.shown.figures()
+        text = await self.home.view.figures()
         return web.Response(body=text, headers={"Content-Type": "text/plain; version=0.0.4"})
 
     async def _get_events(self, request: web.Request) -> web.StreamResponse:
-        """The events that were missed, the state, and what comes."""
+        """Sends the missed events, the state, and all further events and states."""
         last = request.headers.get("Last-Event-ID", "")
         if len(last) > LONGEST_MARK:
             raise web.HTTPBadRequest(text=f"a Last-Event-ID has at most {LONGEST_MARK} letters")
@@ -233,29 +260,33 @@ class Server:
         response = web.StreamResponse(headers=EVENT_STREAM)
         try:
             await response.prepare(request)
-            await self._send_events(response, listener, last)
+            await self._send_events(request, response, listener, last)
         except TimeoutError:  # It doesn't read.
             if request.transport is not None:
                 request.transport.abort()
-        except TROUBLE:
-            pass  # The listener is gone, or the state can't be had; the page connects again.
+        except TEMPORARY_ERRORS:
+            pass  # The listener is gone, or the state is unavailable. The page connects again.
         finally:
             self.home.events.leave(listener)
         return response
 
-    async def _send_events(self, response: web.StreamResponse, listener: Listener, last: str) -> None:
-        """Sends events to a listener until it is let go. Raises TimeoutError if it doesn't read them."""
+    async def _send_events(
+        self, request: web.Request, response: web.StreamResponse, listener: Listener, last: str
+    ) -> None:
+        """Sends events to a listener until it is removed. Raises TimeoutError if it doesn't read them."""
         messages: list[Message | None] = [self.home.events.message(each) for each in self.home.events.after(last)]
-        messages.append(Message("state", await self.home.shown.state()))
+        messages.append(Message("state", await self.home.view.state()))
         while True:
             data = b"".join(each.encoded for each in messages if each is not None)
             async with asyncio.timeout(self._limits.unread):
                 await response.write(data or b": still here\n\n")
+                while _unread(request) > MOST_UNREAD:
+                    await asyncio.sleep(events.BETWEEN_WRITES)
             if None in messages:
                 return
             messages = await heard(listener, HEARTBEAT)
 
-    # What it does.
+    # Changing.
 
     async def _post_login(self, request: web.Request) -> web.Response:
         """Takes the token of the page for it, and leads to the home's page."""
@@ -269,7 +300,7 @@ class Server:
         body = await self._body(request)
         action, key, wait = _text(body, "action"), _optional_text(body, "key"), _flag(body, "wait", True)
         channel = "the page" if request.headers.get("Sec-Fetch-Site") == "same-origin" else "a client over HTTP"
-        ASKER.set(name_of(_optional_text(body, "by"), channel))
+        SOURCE.set(source_of(_optional_text(body, "by"), channel))
         expires = expiry(body.get("expires"))
         if expires is None:
             raise web.HTTPBadRequest(text=NO_EXPIRY)
@@ -277,7 +308,7 @@ class Server:
         return _json(value, status)
 
     async def _delete_request(self, request: web.Request) -> web.Response:
-        """Cancels what waits with a key."""
+        """Cancels the waiting requests with a key."""
         cancelled = self.home.requests.cancel(request.match_info["key"])
         if not cancelled:
             return _json({"error": "no request with this key waits"}, HTTPStatus.NOT_FOUND)
@@ -322,7 +353,9 @@ class Server:
 
     async def _body(self, request: web.Request) -> Mapping[str, Any]:
         """The object in a body; an empty one if there is no body."""
-        return _object(await self._read(request), request.content_type)
+        # The library's own `content_type` takes longer than all else here.
+        kind = request.headers.get("Content-Type", "").partition(";")[0].strip().lower()
+        return _object(await self._read(request), kind)
 
     async def _read(self, request: web.Request) -> bytes:
         """The body of a request. Its connection keeps its place from then on."""
@@ -333,25 +366,30 @@ class Server:
         self._gate.begun(request.protocol)
         return data
 
-    async def _changed(self, change: Awaitable[None]) -> web.Response:
-        """Makes a change, and gives the state after it."""
+    async def _changed(self, change: Coroutine[Any, Any, None]) -> web.Response:
+        """Makes a change, and returns the state after it."""
         try:
-            await asyncio.shield(asyncio.ensure_future(change))
+            await finished(change)
         except Refusal as refusal:
             return _json({"error": refusal.reply}, HTTPStatus.CONFLICT)
-        except (KeyTaken, NoDevice, Nowhere) as error:
+        except (KeyTaken, NoDevice, UnknownState) as error:
             return _json({"error": str(error)}, HTTPStatus.CONFLICT)
         except (TypeError, ValueError) as error:
             return _json({"error": str(error)}, HTTPStatus.BAD_REQUEST)
         except StoreFailed as error:
             text = f"it was done, and is written later, since the journal can't be written: {error}"
             return _json({"error": text}, HTTPStatus.SERVICE_UNAVAILABLE)
-        except TROUBLE as error:
+        except TEMPORARY_ERRORS as error:
             return _json({"error": str(error)}, HTTPStatus.SERVICE_UNAVAILABLE)
         return await self._state()
 
     async def _state(self) -> web.Response:
-        return _json(await self.home.shown.state())
+        return _json(await self.home.view.state())
+
+
+def _unread(request: web.Request) -> int:
+    """How many bytes wait to be sent on the connection of a request."""
+    return 0 if request.transport is None else request.transport.get_write_buffer_size()
 
 
 def expiry(value: Any) -> float | None:
@@ -363,14 +401,14 @@ def expiry(value: Any) -> float | None:
 
 
 def _source(request: web.Request) -> str:
-    """Who asks, for the history."""
+    """The source of a request, for the history."""
     return f"http {request.remote}"
 
 
 async def result(
     home: Home, action: str, key: str | None, wait: bool, *, expires: float = PATIENCE, source: str | None = None
 ) -> tuple[HTTPStatus, dict[str, Any]]:
-    """Has an action served, and gives the status and the JSON of the result."""
+    """Serves an action, and returns the status and the JSON of the result."""
     try:
         return HTTPStatus.OK, await home.requests.serve(action, key, wait, expires=expires, source=source)
     except UnknownAction as error:
@@ -398,14 +436,14 @@ async def result(
         return HTTPStatus.CONFLICT, {
             "error": refusal.reply,
             "explanation": None,
-            "allowed": await home.shown.allowed(),
+            "allowed": await home.view.allowed(),
             "failures": [],
         }
     except InDoubt as error:
         return HTTPStatus.CONFLICT, {"error": "in doubt", "text": str(error)}
     except StoreFailed as error:
         return HTTPStatus.SERVICE_UNAVAILABLE, {"error": f"the journal can't be written: {error}"}
-    except TROUBLE as error:
+    except TEMPORARY_ERRORS as error:
         return HTTPStatus.SERVICE_UNAVAILABLE, {"error": str(error)}
 
 

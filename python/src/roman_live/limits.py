@@ -1,4 +1,4 @@
-"""How much a home takes from outside."""
+"""Limits of what a home accepts from outside."""
 
 from __future__ import annotations
 
@@ -50,14 +50,14 @@ class Bucket:
 
     @property
     def is_empty(self) -> bool:
-        """Whether nothing is let through now."""
+        """Whether the bucket is empty."""
         present = self._clock()
         self._left = min(self._burst, self._left + (present - self._at) * self._rate)
         self._at = present
         return self._left < 1
 
     def take(self) -> bool:
-        """Takes one thing. False if it isn't let through."""
+        """Takes one thing out. False if the bucket is empty."""
         if self.is_empty:
             return False
         self._left -= 1

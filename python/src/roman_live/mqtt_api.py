@@ -2,11 +2,15 @@
 
 from __future__ import annotations
 
+import array
 import asyncio
 import contextlib
+import fcntl
+import functools
 import json
 import logging
 import ssl
+import termios
 from collections import deque
 from collections.abc import Callable
 from typing import Any
@@ -19,7 +23,7 @@ from .limits import LONGEST_BODY
 LOG = logging.getLogger("roman_live.mqtt_api")
 
 KEEPALIVE = 15
-"""After how many seconds of silence the broker is asked whether it is there."""
+"""The seconds of silence after which the client pings the broker."""
 
 SHORTEST_PAUSE, LONGEST_PAUSE = 1.0, 30.0
 """How many seconds pass between two attempts to connect. The pause doubles from one failure to the next."""
@@ -30,6 +34,9 @@ MOST_WAITING = 1000
 REFUSED = 128
 """A broker's answer, in place of a level, to a subscription that it refuses."""
 
+AT_ONCE = 50
+"""The most packets that are read in one turn of the loop."""
+
 GONE = {"gone": True}
 """The state that is published for a home that no longer runs, in the same form as for a device that is gone."""
 
@@ -38,11 +45,30 @@ FIRST_WAIT = 5.0
 
 Listener = Callable[[bytes, bool], None]
 
+LateListener = Callable[[bytes, bool, Callable[[], None]], None]
+"""Receives a message, whether the broker repeats it until it is acknowledged, and a call that acknowledges it."""
 
-def new_client(**words: Any) -> Any:
-    """A client of paho 1, or one of paho 2 that calls back as paho 1 does. Only `reconnect` connects it."""
+
+class LateClient(mqtt.Client):  # type: ignore[misc]
+    """A client of paho 1 with the `ack` of paho 2. paho 1 acknowledges a message at QoS 1 when it has read it, and has
+    no documented way to do this later."""
+
+    def _send_puback(self, mid: int) -> Any:
+        return mqtt.MQTT_ERR_SUCCESS
+
+    def ack(self, mid: int, qos: int) -> Any:
+        """Acknowledges the message with this number."""
+        return super()._send_puback(mid)
+
+
+def new_client(manual_ack: bool = False, **words: Any) -> Any:
+    """A client of paho 1, or one of paho 2 that calls back as paho 1 does. Only `reconnect` connects it. With
+    `manual_ack` it acknowledges a message at QoS 1 only by its `ack`."""
+    words["reconnect_on_failure"] = False
     versions = getattr(mqtt, "CallbackAPIVersion", None)
-    return mqtt.Client(*([] if versions is None else [versions.VERSION1]), reconnect_on_failure=False, **words)
+    if versions is None:
+        return (LateClient if manual_ack else mqtt.Client)(**words)
+    return mqtt.Client(versions.VERSION1, manual_ack=manual_ack, **words)
 
 
 class Connection:
@@ -53,14 +79,18 @@ class Connection:
     thread, and nothing else calls the client meanwhile."""
 
     def __init__(self, broker: Broker, changed: Callable[[bool, str], None]) -> None:
-        """`changed` receives whether the connection is in order, and a text that says what happened to it."""
+        """`changed` receives whether the connection is in order, and a text that describes the change."""
         self.broker = broker
         self.connected = False
         self.connections = 0
+        self.resumed = False
+        """Whether the broker had kept the session when the connection was made."""
         self.state_topic = self.topic("state")
         self._changed = changed
         self._why: str | None = None
         self._listeners: dict[str, list[Listener]] = {}
+        self._of_newest: set[str] = set()
+        self._newest: Any = None
         self._unsent: deque[tuple[str, str]] = deque(maxlen=MOST_WAITING)
         self._asked: dict[int, str] = {}
         self._agreed = asyncio.Event()
@@ -70,7 +100,12 @@ class Connection:
         self._pause = SHORTEST_PAUSE
         self._socket: Any = None
         self._task: asyncio.Task[None] | None = None
-        self._client = self._prepare(new_client())
+        self._client = self._prepare(self._new_client())
+
+    def _new_client(self) -> Any:
+        client = new_client()
+        client.will_set(self.state_topic, json.dumps(GONE), qos=1, retain=True)
+        return client
 
     def _prepare(self, client: Any) -> Any:
         client.on_connect = self._on_connect
@@ -85,7 +120,6 @@ class Connection:
         if self.broker.tls is not None:
             client.tls_set_context(self.broker.tls.context())
         client.max_queued_messages_set(MOST_WAITING)
-        client.will_set(self.state_topic, json.dumps(GONE), qos=1, retain=True)
         client.connect_async(self.broker.host, self.broker.port, KEEPALIVE)
         return client
 
@@ -93,9 +127,12 @@ class Connection:
         """A topic of this home."""
         return f"{self.broker.prefix}/{name}"
 
-    def subscribe(self, topic: str, listener: Listener) -> None:
-        """Calls a listener with each message on a topic, and with whether it was a retained one."""
+    def subscribe(self, topic: str, listener: Listener, *, newest: bool = False) -> None:
+        """Calls a listener with each message on a topic, and with whether it is a retained one. With `newest` the
+        listener receives only the last of several messages that come in a row."""
         self._listeners.setdefault(topic, []).append(listener)
+        if newest:
+            self._of_newest.add(topic)
         if self.connected:
             self._subscribe(topic)
 
@@ -118,8 +155,8 @@ class Connection:
             self._unsent.append((topic, text))
 
     def publish_now(self, topic: str, value: Any, retain: bool = False) -> bool:
-        """Publishes JSON at once, or not at all: then, without a connection, it returns False. The message isn't
-        sent again after the connection was lost, and the broker doesn't keep it for a listener that is away."""
+        """Publishes JSON at once. Returns False if there is no connection. The message isn't sent again after the
+        connection was lost, and the broker doesn't keep it for a listener that is away."""
         return self.send_now(topic, json.dumps(value), retain)
 
     def send_now(self, topic: str, text: str, retain: bool = False) -> bool:
@@ -129,15 +166,19 @@ class Connection:
         sent = self._client.publish(topic, text, qos=0, retain=retain)
         return bool(sent.rc == mqtt.MQTT_ERR_SUCCESS)
 
-    async def open(self) -> None:
-        """Connects. Returns after FIRST_WAIT if the broker isn't there by then."""
+    async def open(self, patience: float | None = None) -> None:
+        """Connects. Returns after `patience` seconds, by default FIRST_WAIT, if the broker isn't there by then."""
         self._task = asyncio.create_task(self._stay_connected())
-        if not await _wait(self._first, FIRST_WAIT) and self._why is None:
+        if not await _wait(self._first, FIRST_WAIT if patience is None else patience) and self._why is None:
             self._changed(False, self._unreached())
 
     async def close(self) -> None:
-        """Disconnects, and publishes that: the broker doesn't publish the last will of those who disconnect."""
+        """Publishes the end of the home, and disconnects. The broker publishes a last will only for lost clients."""
         self.publish_now(self.state_topic, GONE, retain=True)
+        await self.disconnect()
+
+    async def disconnect(self) -> None:
+        """Disconnects."""
         self.connected = False  # So that the end isn't reported as a loss.
         if self._socket is not None:
             self._client.disconnect()
@@ -168,17 +209,27 @@ class Connection:
         loop.add_writer(self._socket, self._write)
 
     def _read(self) -> None:
-        """Reads what has come. A socket of TLS may have more in store than the system has, so it is asked."""
+        """Reads the packets that have come, at most `AT_ONCE` in one turn. A socket of TLS may have buffered more, of
+        which the loop knows nothing, so a further turn is scheduled."""
         watched = self._socket
-        self._run(self._client.loop_read)
-        while self._socket is watched and isinstance(watched, ssl.SSLSocket) and watched.pending():
+        for _ in range(AT_ONCE):
             self._run(self._client.loop_read)
+            if self._socket is not watched or not _has_more(watched):
+                break
+        else:
+            if isinstance(watched, ssl.SSLSocket):
+                asyncio.get_running_loop().call_soon(self._read_more, watched)
+        self._deliver()
+
+    def _read_more(self, watched: Any) -> None:
+        if self._socket is watched:
+            self._read()
 
     def _write(self) -> None:
         self._run(self._client.loop_write)
 
     def _run(self, step: Callable[[], Any]) -> None:
-        """Has the client read or write. What it raises, as errors of TLS, ends the connection."""
+        """Lets the client read or write. An error, such as one of TLS, ends the connection."""
         try:
             step()
         except Exception as error:
@@ -205,13 +256,13 @@ class Connection:
         self._miss(f"{self._unreached()}: {getattr(error, 'strerror', None) or error}")
 
     def _miss(self, why: str) -> None:
-        """Reports why there is no connection, once for each reason, though every attempt may fail for it."""
+        """Reports why there is no connection, once for each reason."""
         if why != self._why:
             self._why = why
             self._changed(False, why)
 
-    # Calls of the client. Those that name a socket concern only the one that the loop watches: `reconnect` makes
-    # some in its thread, for the old socket and for the new one.
+    # Callbacks of the client. Those with a socket handle only the socket that the loop watches, since `reconnect` also
+    # calls them in its thread, for the old socket and for the new one.
 
     def _on_socket_close(self, client: Any, data: Any, closed: Any) -> None:
         if closed is self._socket:
@@ -231,6 +282,7 @@ class Connection:
             return
         self.connected = True
         self.connections += 1
+        self.resumed = bool(flags["session present"])
         self._pause = SHORTEST_PAUSE
         self._why = None
         for topic in self._listeners:
@@ -255,14 +307,73 @@ class Connection:
             self._agreed.set()
 
     def _on_message(self, client: Any, data: Any, message: Any) -> None:
-        if len(message.payload) > LONGEST_BODY:
-            LOG.warning("a message on %s is ignored: it has more than %d bytes", message.topic, LONGEST_BODY)
+        if _is_too_long(message):
+            return
+        if self._newest is not None and self._newest.topic != message.topic:
+            self._deliver()
+        self._newest = message
+        if message.topic not in self._of_newest:
+            self._deliver()
+
+    def _deliver(self) -> None:
+        """Passes the last message to its listeners."""
+        message, self._newest = self._newest, None
+        if message is None:
             return
         for listener in self._listeners.get(message.topic, ()):
             try:
                 listener(message.payload, bool(message.retain))
             except Exception:
                 LOG.exception("a message on %s", message.topic)
+
+
+class SessionConnection(Connection):
+    """A connection with a session that the broker keeps while the home is away. It subscribes to one topic. After each
+    new connection the broker sends the unacknowledged messages at QoS 1 again."""
+
+    def __init__(self, broker: Broker, changed: Callable[[bool, str], None], topic: str, hear: LateListener) -> None:
+        """Calls `hear` with each message on the topic."""
+        super().__init__(broker, changed)
+        self._hear = hear
+        self.subscribe(topic, lambda payload, retained: None)
+
+    def _new_client(self) -> Any:
+        return new_client(manual_ack=True, client_id=f"roman-live-{self.broker.prefix}", clean_session=False)
+
+    async def close(self) -> None:
+        await self.disconnect()
+
+    def _on_message(self, client: Any, data: Any, message: Any) -> None:
+        acknowledge = functools.partial(self._acknowledge, message, self.connections)
+        if _is_too_long(message) or message.retain:  # A retained one is out of date.
+            acknowledge()
+            return
+        try:
+            self._hear(message.payload, message.qos > 0, acknowledge)
+        except Exception:
+            LOG.exception("a message on %s", message.topic)
+            acknowledge()  # The message would fail again.
+
+    def _acknowledge(self, message: Any, connection: int) -> None:
+        """Acknowledges a message. If its connection was lost, the broker sends it again."""
+        if message.qos > 0 and self.connected and connection == self.connections:
+            self._client.ack(message.mid, message.qos)
+
+
+def _has_more(watched: Any) -> bool:
+    """Whether a socket has more to read."""
+    if isinstance(watched, ssl.SSLSocket):
+        return watched.pending() > 0
+    count = array.array("i", [0])
+    fcntl.ioctl(watched, termios.FIONREAD, count)
+    return count[0] > 0
+
+
+def _is_too_long(message: Any) -> bool:
+    if len(message.payload) <= LONGEST_BODY:
+        return False
+    LOG.warning("a message on %s is ignored: it has more than %d bytes", message.topic, LONGEST_BODY)
+    return True
 
 
 async def _wait(event: asyncio.Event, seconds: float) -> bool:

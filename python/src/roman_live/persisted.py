@@ -6,7 +6,7 @@ from collections.abc import Iterable
 from pathlib import Path
 
 from roman_client import Document, StoreError
-from roman_client.store import read, reading
+from roman_client.store import open_read_only, read
 from roman_client.takeover import Journal, is_database
 
 from .config import HomeFileError
@@ -46,6 +46,6 @@ def _content(store: Path) -> tuple[Document, set[str]]:
     if not is_database(store):
         journal = Journal.read(store)
         return journal.snapshot.document, journal.present()
-    with reading(store) as database:
+    with open_read_only(store) as database:
         stored = read(database, store)
     return stored.document, set(stored.position.places)

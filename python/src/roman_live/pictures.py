@@ -13,7 +13,7 @@ LONGEST_DRAWING = 60.0
 
 
 class Picture:
-    """The drawing of a document. It is made once, and kept until the document changes."""
+    """The drawing of a document. It is made once, and cached until the document changes."""
 
     def __init__(self, document: Path) -> None:
         self._document = document

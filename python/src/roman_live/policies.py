@@ -1,4 +1,4 @@
-"""Which of the offered services is taken."""
+"""Policies: the choice among the offered services."""
 
 from __future__ import annotations
 
@@ -41,7 +41,7 @@ def make_policy(policy: Policy, session: aio.Session, program: str, seconds: flo
 
 
 def _look_up(least: LeastCost, document: Document) -> None:
-    """Raises ValueError for a name that the document hasn't."""
+    """Raises ValueError for a name that isn't in the document."""
     for behaviour, action in least.costs:
         if behaviour not in document.behaviours:
             raise ValueError(f"{behaviour} is no behaviour of the document")
@@ -82,7 +82,7 @@ class LeastWorst:
         self._program = program
         self._seconds = seconds
         self._otherwise = otherwise
-        self._known: dict[tuple[str, ...], Mapping[str, str]] = {}
+        self._registry: dict[tuple[str, ...], Mapping[str, str]] = {}
 
     async def __call__(self, choice: Choice) -> str:
         try:
@@ -94,14 +94,14 @@ class LeastWorst:
         return service if service in choice.offered else self._otherwise(choice)
 
     async def _advice(self) -> Mapping[str, str]:
-        """Which service to take for each action, from the present states."""
+        """The service for each action in the present states, by `advise`."""
         report = await self._session.report()
         states = _states(report)
-        if states not in self._known:
-            if len(self._known) >= REMEMBERED:
-                self._known.clear()
-            self._known[states] = await self._ask(report)
-        return self._known[states]
+        if states not in self._registry:
+            if len(self._registry) >= REMEMBERED:
+                self._registry.clear()
+            self._registry[states] = await self._ask(report)
+        return self._registry[states]
 
     async def _ask(self, report: Report) -> Mapping[str, str]:
         """Asks the program, by a document whose starting states are those of the report."""
@@ -135,7 +135,7 @@ class LeastWorst:
 
 
 def _states(report: Report) -> tuple[str, ...]:
-    """All that the advice depends on."""
+    """The states on which the advice depends."""
     services = (
         word
         for each in report.services

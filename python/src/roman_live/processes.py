@@ -17,7 +17,7 @@ import time
 from collections.abc import Iterator
 from pathlib import Path
 
-from .errors import check_want
+from .errors import check_file_limit
 
 LOG = logging.getLogger("roman_live")
 
@@ -36,7 +36,7 @@ class Processes:
 
     @contextlib.contextmanager
     def at_work(self, number: int) -> Iterator[int]:
-        """Holds the lock of a call. Gives the file for the command to inherit."""
+        """Holds the lock of a call, and gives the file that the command inherits."""
         with self.file() as file:
             lock(file, number)
             yield file
@@ -51,11 +51,11 @@ class Processes:
             os.close(file)
 
     def open(self) -> int:
-        """Opens the file for a command that is kept. Raises NoRoom for want of files."""
+        """Opens the file for a lasting command. Raises NoSpace if no files are left."""
         try:
             return os.open(self._path, os.O_RDWR | os.O_CREAT | os.O_CLOEXEC, 0o644)
         except OSError as error:
-            check_want(error)
+            check_file_limit(error)
             raise
 
     def is_at_work(self, number: int) -> bool:

@@ -1,4 +1,4 @@
-"""The known states of services and environment."""
+"""The services of a home and their states, and the state of the environment."""
 
 from __future__ import annotations
 
@@ -10,8 +10,8 @@ from .events import now
 
 
 @dataclass
-class Known:
-    """A service: among others how many `calls` it was given in this run, and its `failures` since it last served."""
+class KnownService:
+    """A service. `calls` counts its calls in this run, and `failures` those that failed since it last served."""
 
     behaviour: str
     state: str
@@ -25,7 +25,7 @@ class Known:
     next_try: str | None = None
 
 
-class Knowledge(dict[str, Known]):
+class Registry(dict[str, KnownService]):
     """The services by name, and the state of the environment."""
 
     def __init__(self, document: Document, opening: Report) -> None:
@@ -35,11 +35,11 @@ class Knowledge(dict[str, Known]):
             self.learn(service.name, service.behaviour, service.state, service.loose)
 
     def learn(self, name: str, behaviour: str, state: str, loose: bool) -> None:
-        """A service is there."""
-        self[name] = Known(behaviour, state, loose, now())
+        """Adds a service."""
+        self[name] = KnownService(behaviour, state, loose, now())
 
     def now_in(self, service: str, state: str) -> None:
-        """A service is in that state."""
+        """Sets the state of a service."""
         known = self[service]
         if known.state != state:
             known.state, known.since = state, now()
@@ -58,21 +58,21 @@ class Knowledge(dict[str, Known]):
             known.dead = name not in present
 
     def served(self, done: Done) -> None:
-        """A request was served."""
+        """Records that a request was served."""
         self.environment = done.environment
         known = self[done.service]
         known.failures, known.last_error = 0, None
         self.now_in(done.service, done.state)
 
     def failed(self, failure: Failure) -> None:
-        """A service failed, and is frozen."""
+        """Records that a service failed and is frozen."""
         known = self[failure.service]
         known.failures += 1
         known.last_error = failure.text
         known.frozen, known.since = True, now()
 
     def changed(self, words: tuple[str, ...]) -> None:
-        """A change was made, by hand or by itself."""
+        """Records a change, by hand or by itself."""
         word, *rest = words
         if word == "jumpenv":
             self.environment = rest[0]

@@ -1,4 +1,4 @@
-"""What would help where there is no composition."""
+"""What would help if there is no composition."""
 
 from __future__ import annotations
 

@@ -4,41 +4,44 @@ from __future__ import annotations
 
 import asyncio
 import time
-from collections.abc import Callable
+from collections import deque
+from collections.abc import Callable, Coroutine
 from dataclasses import dataclass, replace
 from typing import Any
 
-from roman_client import Document, Done, Failure, NoComposition, Refusal, StoreFailed, aio
+from roman_client import Document, Done, Failure, NoComposition, Refusal, StoreFailed
+from roman_client.aio.dispatcher import settle
 from roman_client.devices import Outcome
 
 from .activity import Activity
+from .ahead import HomeDispatcher
 from .background import Background
 from .devices import Answer, Simulated
-from .errors import Busy, Cancelled, Crowded, Ending, Expired, Moved, UnknownAction
+from .errors import Busy, Cancelled, Expired, HomeEnding, MovedMeanwhile, TooManyRequests, UnknownAction
 from .events import EventLog
 from .fleet import Fleet
 from .metrics import Metrics
 from .states import done_to_json
 
 PATIENCE = 300.0
-"""How many seconds a request waits for its turn, unless it says another number."""
+"""How many seconds a request waits for its turn by default."""
 
 MOVES = 1
-"""How often a request is made again since something moved by itself. After that moves wait for the request."""
+"""How often a request is made again because something moved by itself. After that, moves wait for the request."""
 
 EXPIRED, CANCELLED = "expired", "cancelled"
 
 
 @dataclass(eq=False)
 class Waiting:
-    """A request that waits for its turn, until it is given up for a reason."""
+    """A request that waits for its turn. `given_up` is the reason why it was given up, if it was."""
 
     key: str | None
     task: asyncio.Task[Any]
     given_up: str | None = None
 
     def give_up(self, why: str) -> None:
-        """Lets it wait no longer."""
+        """Ends its waiting, for that reason."""
         self.given_up = why
         self.task.cancel()
 
@@ -49,7 +52,7 @@ class Requests:
     def __init__(
         self,
         document: Document,
-        dispatcher: aio.Dispatcher,
+        dispatcher: HomeDispatcher,
         fleet: Fleet,
         activity: Activity,
         events: EventLog,
@@ -57,12 +60,15 @@ class Requests:
         noticed: asyncio.Event,
         changed: Callable[[], None],
         most: int,
+        *,
+        shares: bool,
     ) -> None:
-        """At most `most` requests are open. `noticed` is set at each notice of the dispatcher, and `changed` is called
-        when what is shown has changed."""
+        """At most `most` requests are open. With `shares` the end of one is written with the call of the next one; this
+        requires a home without advice and without a sensor of the environment. `noticed` is set at each notice of the
+        dispatcher. `changed` is called when the state that is shown has changed."""
         self.ending = False
         self.open = 0
-        """How many requests are open, with those that wait."""
+        """How many requests are open, including those that wait."""
         self.background = Background()
         self._document = document
         self._dispatcher = dispatcher
@@ -73,9 +79,10 @@ class Requests:
         self._noticed = noticed
         self._changed = changed
         self._most = most
+        self._shares = shares
         self._turn = asyncio.Lock()
         self._waiting: set[Waiting] = set()
-        self._last: tuple[Done | None, int] = (None, 0)
+        self._numbers: deque[tuple[Done, int]] = deque(maxlen=most)
 
     async def serve(
         self,
@@ -86,24 +93,34 @@ class Requests:
         expires: float = PATIENCE,
         source: str | None = None,
     ) -> dict[str, Any]:
-        """Has an action served, and gives the result as JSON. If another request is open it waits for its turn, for
-        `expires` seconds at most; with `wait` false it is `Busy`. A caller that goes away doesn't stop it."""
+        """Serves an action, and returns the result as JSON. If another request is open, it waits for its turn, for
+        `expires` seconds at most; if `wait` is false, it raises `Busy`. It continues if its caller goes away."""
         if action not in self._document.actions:
             raise UnknownAction(f"{action} is no action that may be requested")
         if self.ending:
-            raise Ending("the home is about to end")
+            raise HomeEnding("the home is about to end")
         if self.open and not wait:
             self._metrics.requests.labels("busy").inc()
             raise Busy("a request is open")
         if self.open >= self._most:
             self._metrics.requests.labels("busy").inc()
-            raise Crowded(f"{self.open} requests wait already; try again later")
+            raise TooManyRequests(f"{self.open} requests wait already; try again later")
         self.open += 1
-        return await asyncio.shield(self.background.run(self._served(action, key, expires, source)))
+        answer: asyncio.Future[dict[str, Any]] = asyncio.get_running_loop().create_future()
+        self.background.run(self._answer(answer, self._served(action, key, expires, source)))
+        return await answer
+
+    async def _answer(self, answer: asyncio.Future[dict[str, Any]], work: Coroutine[Any, Any, dict[str, Any]]) -> None:
+        """Passes the result of a request to its caller, unless the caller has gone away."""
+        try:
+            settle(answer, await work, None)
+        except BaseException as error:
+            settle(answer, None, error)
+            raise
 
     def cancel(self, key: str) -> int:
-        """Cancels the requests with that key that wait for their turn. Gives how many there were. One whose device is
-        at work goes on."""
+        """Cancels the requests with that key that wait for their turn, and returns their number. A request whose device
+        is at work continues."""
         found = [each for each in self._waiting if each.key == key]
         for each in found:
             each.give_up(CANCELLED)
@@ -112,21 +129,30 @@ class Requests:
     async def record(
         self, action: str, service: str, outcome: Outcome, key: str | None, source: str | None = None
     ) -> None:
-        """A request that was in doubt was served, with that outcome. No device is asked."""
+        """Records that a request in doubt was served with that outcome. No device is asked."""
         await self._dispatcher.record(action, service, *outcome, key, source)
 
     def done(self, done: Done, number: int) -> None:
-        """A request was served, by the call with that number."""
-        self._last = (done, number)
+        """Stores the number of the call that served a request."""
+        self._numbers.append((done, number))
+
+    def _number(self, done: Done) -> int | None:
+        """The number of the call that served a request, if it is stored."""
+        return next((number for each, number in reversed(self._numbers) if each is done), None)
+
+    def _is_awaited(self) -> bool:
+        """Whether another request waits, whose call will follow soon."""
+        return self._shares and bool(self._waiting) and not self._fleet.moves.is_open
 
     async def _served(self, action: str, key: str | None, expires: float, source: str | None) -> dict[str, Any]:
         started = time.monotonic()
         result = "failed"
         try:
-            done = await self._in_turn(action, key, expires, source)
+            done, failures = await self._in_turn(action, key, expires, source)
             result = "served"
             self._metrics.seconds.observe(time.monotonic() - started)
-            return done_to_json(done, self._last[1] if self._last[0] is done else None)
+            number = self._number(done)
+            return done_to_json(replace(done, failures=(*failures, *done.failures)) if failures else done, number)
         except Refusal as refusal:
             result = refusal.reply
             self._events.add("refused", f"{action}: {refusal.reply}", action=action, error=refusal.reply)
@@ -141,16 +167,27 @@ class Requests:
             self._metrics.requests.labels(result).inc()
             self._changed()
 
-    async def _in_turn(self, action: str, key: str | None, expires: float, source: str | None) -> Done:
-        """Waits for its turn, and has an action served. Raises `Expired` or `Cancelled` if it isn't given one."""
+    async def _in_turn(
+        self, action: str, key: str | None, expires: float, source: str | None
+    ) -> tuple[Done, list[Failure]]:
+        """Waits for a turn, and serves an action. Also returns the failures of earlier attempts. Raises `Expired` or
+        `Cancelled` if the request gets no turn."""
         await self._wait(action, key, expires)
+        failures: list[Failure] = []
         try:
-            return await self._request(action, key, source)
-        finally:
-            self._turn.release()
+            try:
+                written = await self._request(action, key, source, failures)
+            finally:
+                self._turn.release()
+            return await written, failures
+        except StoreFailed as error:
+            if error.done is None:
+                raise
+            self._events.add("journal", f"{error}; {action} was served, and is written later")
+            return error.done, failures
 
     async def _wait(self, action: str, key: str | None, expires: float) -> None:
-        if not self._turn.locked():
+        if not self._turn.locked() and not self._waiting:
             await self._turn.acquire()
             return
         task = asyncio.current_task()
@@ -170,16 +207,19 @@ class Requests:
             timer.cancel()
             self._waiting.discard(waiting)
 
-    async def _request(self, action: str, key: str | None, source: str | None) -> Done:
-        """Has an action served; again if something moved by itself before a device was asked."""
+    async def _request(
+        self, action: str, key: str | None, source: str | None, failures: list[Failure]
+    ) -> asyncio.Future[Done]:
+        """Serves an action, and tries again if something moved by itself before a device was asked."""
         try:
-            return await self._after_moves(action, key, source)
+            return await self._after_moves(action, key, source, failures)
         finally:
             self._fleet.moves.go_on()
 
-    async def _after_moves(self, action: str, key: str | None, source: str | None) -> Done:
-        """Has an action served once what moved by itself is known; if that doesn't end, without the newest moves."""
-        failures: list[Failure] = []
+    async def _after_moves(
+        self, action: str, key: str | None, source: str | None, failures: list[Failure]
+    ) -> asyncio.Future[Done]:
+        """Serves an action after all reported moves are made. If moves keep coming, the newest ones wait."""
         attempts = 0
         while True:
             attempts += 1
@@ -188,23 +228,18 @@ class Requests:
             else:
                 self._fleet.moves.make_all()
             try:
-                done = await self._dispatcher.request(action, key, source)
-                return done if not failures else replace(done, failures=(*failures, *done.failures))
-            except Moved:
+                return await self._dispatcher.serve(action, key, source, self._is_awaited)
+            except MovedMeanwhile:
                 failures += self._activity.failures
                 self._activity.failures.clear()
+                await asyncio.sleep(0)  # The moves get a turn.
             except NoComposition as refusal:
                 refusal.failures = (*failures, *refusal.failures)
                 raise
-            except StoreFailed as error:
-                if error.done is None:
-                    raise
-                self._events.add("journal", f"{error}; {action} was served, and is written later")
-                return error.done
 
     async def answer(self, service: str, outcome: Outcome | None) -> None:
-        """Says what came of the call that is under way at a simulated device; with None, that it failed. Raises
-        LookupError if none is."""
+        """Ends the call that is under way at a simulated device, with an outcome, or with a failure if it is None.
+        Raises LookupError if there is no such call."""
         device = self._fleet.devices.get(service)
         reach = None if device is None else device.reach
         if not isinstance(reach, Simulated) or not reach.waiting:
@@ -214,7 +249,7 @@ class Requests:
         await self._noticed.wait()
 
     async def settle(self, seconds: float) -> bool:
-        """Takes no more requests, and waits that long for those that are open. Whether they came to their end."""
+        """Refuses new requests, and waits for the open ones for so many seconds. Returns whether all have ended."""
         self.ending = True
         end = time.monotonic() + seconds
         while self.open and time.monotonic() < end:

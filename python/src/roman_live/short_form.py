@@ -36,10 +36,10 @@ def plain_text(document: Path) -> str:
         checker = read(document.name, Shelf(document.parent))
     except OSError as error:
         raise DocumentError(f"{error.filename}: {error.strerror}") from None
-    if checker.system is None:
+    if checker.document is None:
         shown = [line for each in in_order(checker.findings) for line in each.shown()]
         raise DocumentError("\n".join(["it can't be expanded", *shown]))
-    return written(checker.system).text
+    return written(checker.document).text
 
 
 def plain_costs(document: Path, costs: Path) -> str:
@@ -52,8 +52,8 @@ def plain_costs(document: Path, costs: Path) -> str:
 
     try:
         checker = read(document.name, Shelf(document.parent))
-        assert checker.system is not None
-        reader = Reader(checker, checker.system, str(costs))
+        assert checker.document is not None
+        reader = Reader(checker, checker.document, str(costs))
         errors = [each for each in reader.read().findings if each.level is Level.ERROR]
     except OSError as error:
         raise DocumentError(f"{error.filename}: {error.strerror}") from None

@@ -1,4 +1,4 @@
-"""What is known of a home, as JSON."""
+"""Parts of the state of a home as JSON."""
 
 from __future__ import annotations
 
@@ -27,7 +27,7 @@ def target_to_json(document: Document, report: Report) -> dict[str, Any]:
 
 
 def actions_to_json(document: Document, report: Report) -> list[dict[str, Any]]:
-    """Each action that may be requested, with who may serve it, or why it isn't allowed."""
+    """Each action that may be requested, with the services that may serve it, or why it isn't allowed."""
     allowed = document.allowed(report.target, report.environment)
     actions = []
     for action in document.actions:
@@ -77,7 +77,7 @@ def explanation_to_json(explanation: Explanation) -> dict[str, Any]:
 
 
 def failures_to_json(failures: Sequence[Failure]) -> list[dict[str, str]]:
-    """Which services failed at a request, and how."""
+    """The failures at a request."""
     return [{"service": each.service, "error": each.text} for each in failures]
 
 

@@ -1,4 +1,4 @@
-"""What systemd is told, where it started this: ready, still alive, stopping; and how its journal is written."""
+"""Notices to systemd (ready, alive, stopping), and lines for its journal."""
 
 from __future__ import annotations
 
@@ -45,7 +45,7 @@ def begin_log(level: int) -> None:
 
 
 def greet(text: str) -> None:
-    """Writes a line to the standard output. The home runs on where that can't be, as on a full disk."""
+    """Writes a line to the standard output. A line that can't be written, as on a full disk, doesn't stop the home."""
     try:
         print(text, flush=True)
     except OSError:
@@ -54,7 +54,7 @@ def greet(text: str) -> None:
 
 
 def complain(error: Exception) -> None:
-    """Says on the standard error why it ends."""
+    """Writes the reason of the end to the standard error."""
     mark = f"<{PRIORITIES[logging.ERROR]}>" if in_journal() else ""
     text = str(error).replace("\n", f"\n{mark}")
     with contextlib.suppress(OSError):  # The status says that it failed.
@@ -62,7 +62,7 @@ def complain(error: Exception) -> None:
 
 
 class Supervisor:
-    """Tells systemd; nobody, where NOTIFY_SOCKET isn't set."""
+    """Sends notices to systemd, if NOTIFY_SOCKET is set."""
 
     def __init__(self) -> None:
         microseconds = os.environ.get("WATCHDOG_USEC", "")
@@ -72,22 +72,22 @@ class Supervisor:
         self._status = ""
 
     def ready(self, url: str) -> None:
-        """The home runs, and its page is there."""
+        """Reports that the home runs and its page answers."""
         self._url = url
         daemon.notify(f"READY=1\nSTATUS=at {url}/")
 
     def status(self, text: str) -> None:
-        """How it is with the home, which `systemctl status` shows."""
+        """Reports the status that `systemctl status` shows."""
         if self._url and text != self._status:
             self._status = text
             daemon.notify(f"STATUS=at {self._url}/: {text}")
 
     def stopping(self) -> None:
-        """The home is about to end."""
+        """Reports that the home is about to end."""
         daemon.notify("STOPPING=1")
 
     async def watch(self, ending: asyncio.Event) -> None:
-        """Waits for the end, and says now and then that all is well."""
+        """Waits for the end, and reports regularly that the home is alive."""
         while not ending.is_set():
             try:
                 await asyncio.wait_for(ending.wait(), self._period)

@@ -16,7 +16,7 @@ class HomeFileError(Exception):
     """A home file can't be read, or isn't valid. The text names the file, the line, and the table with the key."""
 
 
-class Unusable(HomeFileError):
+class UnusableValue(HomeFileError):
     """A value that is needed is wrong, which is collected already."""
 
 
@@ -32,10 +32,10 @@ class Table:
         self.is_wrong = False
         """Whether one of its values is wrong."""
         self._rest: dict[str, Any] = dict(value)
-        self._known: dict[str, None] = {}
+        self._registry: dict[str, None] = {}
 
     def has(self, key: str) -> bool:
-        """Whether a key is there that wasn't read yet."""
+        """Whether the table has a key that wasn't read yet."""
         return key in self._rest
 
     def names(self) -> tuple[str, ...]:
@@ -47,23 +47,23 @@ class Table:
         return f"{self.name}.{key}" if self.name else key
 
     def wrong(self, key: str, what: str) -> HomeFileError:
-        """The error that says what is wrong with a key."""
+        """The error about a key."""
         return HomeFileError(f"{self.key(key)} {what}")
 
     def attempt(self, read: Callable[[], Value], otherwise: Value) -> Value:
         """What a function reads. If it raises HomeFileError, that is collected, and another value is taken."""
         try:
             return read()
-        except Unusable:
+        except UnusableValue:
             return otherwise
         except HomeFileError as error:
             self.errors.append(str(error))
             return otherwise
 
     def take(self, key: str, read: Callable[[Any], Value], otherwise: Value) -> Value:
-        """The value of a key, or another one where it isn't there, or is wrong. `read` raises ValueError with what
+        """The value of a key, or the other one if it is missing or wrong. `read` raises ValueError with what
         is allowed."""
-        self._known[key] = None
+        self._registry[key] = None
         if key not in self._rest:
             return otherwise
         value = self._rest.pop(key)
@@ -79,7 +79,7 @@ class Table:
         is_there = key in self._rest
         value = self.take(key, read, None)
         if value is None and is_there:
-            raise Unusable()
+            raise UnusableValue()
         if value is None:
             near = difflib.get_close_matches(key, self._rest, 1)
             meant = f"; is {self.key(near[0])} meant for it?" if near else ""
@@ -87,23 +87,23 @@ class Table:
         return value
 
     def table(self, key: str) -> Table | None:
-        """The table below a key, where there is one."""
-        self._known[key] = None
+        """The table below a key, if there is one."""
+        self._registry[key] = None
         if key not in self._rest:
             return None
         return Table(self.key(key), self._rest.pop(key), self.errors)
 
     def items(self) -> Iterable[tuple[str, Any]]:
-        """All that is left."""
+        """All keys that are left."""
         rest, self._rest = self._rest, {}
         return rest.items()
 
     def end(self) -> None:
         """Collects an error for each key that is left, with the key that is probably meant."""
         for key in self._rest:
-            near = difflib.get_close_matches(key, self._known, 1)
+            near = difflib.get_close_matches(key, self._registry, 1)
             meant = f"; did you mean {near[0]}?" if near else ""
-            self.errors.append(str(self.wrong(key, f"isn't known{meant}; known are {', '.join(self._known)}")))
+            self.errors.append(str(self.wrong(key, f"isn't known{meant}; known are {', '.join(self._registry)}")))
 
 
 def text(value: Any) -> str:
@@ -132,7 +132,7 @@ def whole(least: int, most: int) -> Callable[[Any], int]:
 
 
 def seconds(value: Any) -> float:
-    """A time that is more than none."""
+    """A time of more than 0 seconds."""
     if isinstance(value, bool) or not isinstance(value, (int, float)) or not 0 < value <= 86400:
         raise ValueError("a number of seconds, more than 0 and at most 86400")
     return float(value)

@@ -54,7 +54,7 @@ ENVIRONMENT = _environment()
 
 
 class Template:
-    """A template that may use some names, and none else."""
+    """A template that may use only these names."""
 
     def __init__(self, text: str, names: frozenset[str]) -> None:
         """Raises ValueError for a text that is no template, or that uses other names."""

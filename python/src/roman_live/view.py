@@ -1,4 +1,4 @@
-"""What is shown of a home: over HTTP, to Prometheus, and on the broker."""
+"""The state of a home as JSON: over HTTP, for Prometheus, and on the broker."""
 
 from __future__ import annotations
 
@@ -12,7 +12,7 @@ from typing import TYPE_CHECKING, Any
 from roman_client import Explanation, Report, RomanError, SessionOver
 
 from .discovery import Discovery
-from .errors import TROUBLE
+from .errors import TEMPORARY_ERRORS
 from .events import Message, now
 from .mqtt_api import GONE
 from .opening import without_composition
@@ -28,13 +28,13 @@ BETWEEN_STATES = 0.05
 """How many seconds there are at least between two states that listeners are sent."""
 
 
-class Shown:
-    """What is shown of a home."""
+class View:
+    """Makes the state of a home as JSON, and publishes it."""
 
     def __init__(self, home: Home) -> None:
         self._home = home
         self.listener: Callable[[str], None] | None = None
-        """Is told in a line how it is with the home, whenever that may have changed."""
+        """Gets the status of the home in one line, whenever it may have changed."""
         self._report = home.session.opening
         self._explained: tuple[Report, Explanation | None] | None = None
         self._stuck = False
@@ -54,7 +54,7 @@ class Shown:
         """The present state as JSON."""
         report = await self._present_report()
         explanation = await self._explanation(report)
-        services = [self._service_to_json(name) for name in self._home.known]
+        services = [self._service_to_json(name) for name in self._home.registry]
         return {
             "document": self._home.file.document.name,
             "title": self._home.file.words.title,
@@ -82,12 +82,12 @@ class Shown:
     async def figures(self) -> bytes:
         """The figures for Prometheus."""
         report = await self._present_report()
-        services = [(name, self._status(name)) for name in self._home.known]
+        services = [(name, self._status(name)) for name in self._home.registry]
         self._home.metrics.show(self._home.dispatcher.served, report.composition, services)
         return self._home.metrics.text()
 
     async def remedies(self) -> dict[str, Any]:
-        """What would help where there is no composition."""
+        """What would help if there is no composition."""
         return await self._remedies.of(await self._present_report())
 
     async def allowed(self) -> list[str]:
@@ -96,7 +96,7 @@ class Shown:
         return list(report.offers)
 
     async def _present_report(self) -> Report:
-        """The newest report. While the program is started again it may be the one before."""
+        """The newest report, or the one before while the program is started again."""
         try:
             self._report = await self._home.reply(self._home.session.report())
         except SessionOver:
@@ -121,7 +121,7 @@ class Shown:
         return self._explained[1]
 
     def _status(self, service: str) -> str:
-        known = self._home.known[service]
+        known = self._home.registry[service]
         if known.dead:
             return "dead"
         if self._home.activity.call is not None and self._home.activity.call[0].service == service:
@@ -129,7 +129,7 @@ class Shown:
         return "frozen" if known.frozen else "ready"
 
     def _service_to_json(self, name: str) -> dict[str, Any]:
-        known = self._home.known[name]
+        known = self._home.registry[name]
         device = self._home.fleet.devices.get(name)
         entry = self._home.file.devices.get(name)
         return {
@@ -160,7 +160,7 @@ class Shown:
             "since": since,
         }
         if self._home.simulate:
-            known = self._home.known[call.service]
+            known = self._home.registry[call.service]
             shown["outcomes"] = [
                 {"state": state, "environment": environment}
                 for state, environment in self._home.document.outcomes(
@@ -188,15 +188,15 @@ class Shown:
                         self._home.fleet.broker.state_topic, await self._summary(), retain=True
                     )
                     if self._discovery is not None:
-                        self._discovery.publish(self._home.known)
+                        self._discovery.publish(self._home.registry)
                 if self.listener is not None:
                     self.listener(self._line(await self._present_report()))
-            except TROUBLE as error:
+            except TEMPORARY_ERRORS as error:
                 LOG.warning("the state can't be had: %s", error)
             await asyncio.sleep(BETWEEN_STATES)
 
     def _line(self, report: Report) -> str:
-        """How it is with the home, in a line."""
+        """The status of the home in one line."""
         words = ["there is a composition" if report.composition else "there is no composition"]
         if is_stuck(self._home.document, report):
             words.append(STUCK)
@@ -208,8 +208,8 @@ class Shown:
         return "; ".join(words)
 
     def hear_state(self, payload: bytes, retained: bool) -> None:
-        """What stands for the state on the broker. It is said anew where it is that the home is gone: so says a
-        connection that the broker found lost late, or another start of this home that came to nothing."""
+        """Handles the state that the broker retains. If it is that the home is gone, the state is published again. The
+        broker may have noticed a lost connection late, or another start of this home may have failed."""
         with contextlib.suppress(ValueError, RecursionError):
             if json.loads(payload) == GONE:
                 self._home.dirty.set()
@@ -230,7 +230,7 @@ class Shown:
             "offers": {action: list(services) for action, services in report.offers.items()},
             "services": {
                 name: {"state": known.state, "status": self._status(name), "error": known.last_error}
-                for name, known in self._home.known.items()
+                for name, known in self._home.registry.items()
             },
             "counts": {
                 "served": self._home.dispatcher.served,

@@ -1,6 +1,6 @@
-"""What the tools for people share: documents with the places of their words, findings, systems as machines.
+"""Shared parts of the tools: documents with the places of their words, and findings.
 
-`reader` gives values that know where they stand; `checks` finds every refusal of the format in them, and
+`reader` gives values with their places; `checks` finds every refusal of the format in them, and
 `cautions` what is accepted and probably not meant; `lint` shows both. `short_form` expands the short form.
 """
 
@@ -15,15 +15,15 @@ UNWRITTEN = 7
 
 
 def need(*modules: str) -> None:
-    """Ends where one of these modules isn't there, and says which packages of Debian have them."""
+    """Exits if one of these modules is missing, and names the packages of Debian that have them."""
     missing = [f"python3-{name}" for name in modules if find_spec(name) is None]
     if missing:
         sys.exit(f"the tools of roman need more than Python: sudo apt install {' '.join(missing)}")
 
 
 def finished(main: Callable[[], int]) -> int:
-    """The status of a tool, also where its output can't be written. Where the reader of that goes away it ends
-    without a word, as other filters do."""
+    """The status of a tool, also if its output can't be written. If the reader of the output goes away, the tool
+    ends without a message, as other filters do."""
     try:
         status = main()
         sys.stdout.flush()

@@ -24,8 +24,8 @@ class Actions:
     """The actions that no service has, but a behaviour: its name."""
 
     def faults(self) -> Iterator[tuple[Span, str]]:
-        """The requests that nothing can come of, each with what is wrong. An action that stands nowhere else, and
-        is nearly the same, is what is wrong."""
+        """The requests that can't be served, each with the mistake: a similar action that is used nowhere else, if
+        there is one."""
         for action, span in self.planned.items():
             if action not in self.moved:
                 fault = f'the environment has no step on "{action}"'

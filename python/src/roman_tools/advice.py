@@ -18,7 +18,7 @@ from pathlib import Path
 
 from . import finished, program
 from .costs import Reader
-from .documents import looked_up, plain_file, read
+from .documents import plain_file, read
 from .findings import Level, in_order
 from .lint import CLEAN, UNREADABLE, WRONG
 from .offers_picture import Arena, Pair
@@ -129,14 +129,14 @@ def main(arguments: Sequence[str] | None = None) -> int:
     try:
         checker = read(asked.system)
         findings = list(checker.findings)
-        if checker.system is not None:
-            reader = Reader(checker, checker.system, asked.costs)
+        if checker.document is not None:
+            reader = Reader(checker, checker.document, asked.costs)
             findings += [each for each in reader.read().findings if each.level is Level.ERROR]
-        if checker.system is None or findings:
+        if checker.document is None or findings:
             for each in in_order(findings):
                 print(*each.shown(), sep="\n", file=sys.stderr)
             return WRONG
-        with plain_file(checker.system) as document:
+        with plain_file(checker.document) as document:
             status, text = written_by(asked, document, reader.plain())
     except OSError as error:
         if error.filename is None:
@@ -147,7 +147,7 @@ def main(arguments: Sequence[str] | None = None) -> int:
     if worst is None:
         print(text, end="")
         return status
-    advice = Advice(Arena(looked_up(checker.system), set()), reader.by_behaviour(), text)
+    advice = Advice(Arena(checker.document, set()), reader.by_behaviour(), text)
     print(f"the next {advice.horizon} requests from the start cost {worst[1]} at worst\n")
     print(*table(advice, None if asked.all else MOST), sep="\n")
     return status

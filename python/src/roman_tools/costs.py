@@ -9,14 +9,13 @@ from __future__ import annotations
 import json
 from dataclasses import dataclass, field
 
-from roman_client.documents import LONGEST_DOCUMENT
+from roman_client.documents import LONGEST_DOCUMENT, Document
 from roman_client.policies import GREATEST_COST
 
-from .cautions import Judge
 from .checks import Checker, counted
 from .findings import Finding, Level, Refusal, meant
 from .reader import Broken, Items, Number, Span, Text, Value, parsed
-from .systems import System
+from .walk import Walk
 
 MOST_ITEMS = 1024
 
@@ -51,21 +50,19 @@ class Costs:
 
 
 class Reader:
-    """Reads a file of costs beside a system."""
+    """Reads a file of costs beside a document."""
 
-    def __init__(self, checker: Checker, system: System, name: str) -> None:
+    def __init__(self, checker: Checker, document: Document, name: str) -> None:
         self.checker = checker
-        self.system = system
-        self.actions = system.combined_actions()
-        self.behaviours = {each.name.text: number for number, each in enumerate(system.behaviours) if each.name}
-        self.services = {each.name.text: each for each in system.services} if checker.short else {}
+        self.document = document
+        self.services = {each.name: each for each in document.services} if checker.short else {}
         self.patterns = set(checker.patterns.values())
         self.costs = Costs(name, checker.short)
 
     @property
     def names(self) -> set[str]:
         """What an item may name."""
-        return {*self.behaviours, *self.services, *self.patterns}
+        return {*self.document.behaviours, *self.services, *self.patterns}
 
     def read(self) -> Costs:
         """Reads all items. OSError if the file can't be read."""
@@ -102,7 +99,10 @@ class Reader:
             return self.costs.fault("form", "steps", index, item.span, message)
         name, action, cost = item.items
         who = "behaviour, service or pattern" if self.checker.short else "behaviour"
-        for value, known, what in ((name, self.names, who), (action, set(self.actions), "action that is requested")):
+        for value, known, what in (
+            (name, self.names, who),
+            (action, set(self.document.actions), "action that is requested"),
+        ):
             if not isinstance(value, Text):
                 message = f"the name of a {what.split()[0].rstrip(',')} is a text, and {value.word} stands here"
                 return self.costs.fault("form", "steps", index, value.span, message)
@@ -124,12 +124,10 @@ class Reader:
         self.costs.items.append(Cost(name.text, action.text, whole, item.span))
         return None
 
-    def items_of(self, number: int, action: str) -> list[Cost]:
+    def items_of(self, behaviour: str, action: str) -> list[Cost]:
         """The items that say what an action costs of a behaviour, those that count first."""
-        behaviour = self.system.behaviours[number].name
-        assert behaviour is not None
-        services = {name for name, each in self.services.items() if each.behaviour == number}
-        ranks = [services - set(self.behaviours), {behaviour.text}, {self.checker.patterns.get(behaviour.text, "")}]
+        services = {name for name, each in self.services.items() if each.behaviour == behaviour}
+        ranks = [services - set(self.document.behaviours), {behaviour}, {self.checker.patterns.get(behaviour, "")}]
         found = [each for each in self.costs.items if each.action == action]
         return [each for names in ranks for each in found if each.name in names]
 
@@ -137,7 +135,7 @@ class Reader:
         """Services that cost differently, and are of one behaviour, of which there is one cost alone."""
         for each in self.costs.items:
             service = self.services.get(each.name)
-            if service is None or each.name in self.behaviours:
+            if service is None or each.name in self.document.behaviours:
                 continue
             own = {item.name: item.cost for item in self.items_of(service.behaviour, each.action)}
             others = [name for name, other in self.services.items() if other.behaviour == service.behaviour]
@@ -148,24 +146,24 @@ class Reader:
 
     def missing(self, at: Span) -> list[Finding]:
         """The behaviours that serve requests, and have no item."""
-        requested = Judge(self.system).walk.requested
+        requested = Walk(self.document).requested
         found = []
-        for number, behaviour in enumerate(self.system.behaviours):
-            services = [each.name.text for each in self.system.services if each.behaviour == number]
+        for behaviour in self.document.behaviours.values():
+            services = [each.name for each in self.document.services if each.behaviour == behaviour.name]
             serves = any(step.action in requested for step in behaviour.steps)
-            if services and serves and not any(self.items_of(number, action) for action in self.actions):
-                assert behaviour.name is not None
+            costs = (self.items_of(behaviour.name, action) for action in self.document.actions)
+            if services and serves and not any(costs):
                 names = ", ".join(f'"{name}"' for name in services)
-                message = f'behaviour "{behaviour.name.text}" ({names}) has no item, so each of its actions costs 0'
+                message = f'behaviour "{behaviour.name}" ({names}) has no item, so each of its actions costs 0'
                 found.append(Finding(at, Level.WARNING, message))
         return found
 
     def by_behaviour(self) -> dict[tuple[str, str], int]:
         """The costs by the behaviours of the plain document, and the actions."""
         found = {}
-        for name, number in self.behaviours.items():
-            for action in self.actions:
-                items = self.items_of(number, action)
+        for name in self.document.behaviours:
+            for action in self.document.actions:
+                items = self.items_of(name, action)
                 if items:
                     found[name, action] = items[0].cost
         return found

@@ -4,7 +4,6 @@ from __future__ import annotations
 
 import contextlib
 import dataclasses
-import json
 import tempfile
 from collections.abc import Iterator
 
@@ -14,13 +13,12 @@ from .checks import Checker
 from .findings import Finding
 from .reader import Members, Shelf
 from .short_form import Expander, has_short_words, is_short
-from .systems import System
 from .writer import written
 
 
 def read(name: str, shelf: Shelf | None = None) -> Checker:
-    """A checker that has read a document, and has its system where nothing is refused. OSError where the
-    document can't be read."""
+    """A checker that has read a file, and has its plain document if nothing is refused. OSError if the file can't be
+    read."""
     checker = Checker(name, shelf)
     value = checker.fetch(name, (name, "system", 0))
     if value is None:
@@ -50,15 +48,10 @@ def unnamed_form(value: Members, first: Finding) -> Finding:
     )
 
 
-def looked_up(system: System) -> Document:
-    """The document of a system, in which the client looks things up."""
-    return Document(json.loads(written(system).text))
-
-
 @contextlib.contextmanager
-def plain_file(system: System) -> Iterator[str]:
-    """A file with the plain document of a system, for a program that reads no short ones."""
+def plain_file(document: Document) -> Iterator[str]:
+    """A file with a plain document, for a program that reads no short ones."""
     with tempfile.NamedTemporaryFile("w", suffix=".json", encoding="utf-8") as file:
-        file.write(written(system).text)
+        file.write(written(document).text)
         file.flush()
         yield file.name

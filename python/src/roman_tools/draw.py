@@ -16,20 +16,21 @@ from collections.abc import Sequence
 from pathlib import Path
 from typing import Any
 
+from roman_client import Document
+
 from . import explanations, finished, offers_picture, program, why
-from .documents import looked_up, plain_file, read
+from .documents import plain_file, read
 from .lint import all_findings
 from .pictures import Wrong, svg
 from .system_picture import Picture
-from .systems import System
 
 
-def system_of(name: str) -> System:
-    """The system of a document that breaks no rule."""
+def document_of(name: str) -> Document:
+    """A document that breaks no rule."""
     checker = read(name)
-    if checker.system is None:
+    if checker.document is None:
         raise Wrong(checker.findings[0].heading)
-    return checker.system
+    return checker.document
 
 
 def system_picture(name: str) -> Any:
@@ -40,7 +41,7 @@ def system_picture(name: str) -> Any:
     return Picture(checker, all_findings(checker)).draw()
 
 
-def play_of(system: System, name: str) -> explanations.Play:
+def play_of(document: Document, name: str) -> explanations.Play:
     """The last explanation in a file."""
     try:
         text = sys.stdin.read() if name == "-" else Path(name).read_text(encoding="utf-8")
@@ -49,44 +50,44 @@ def play_of(system: System, name: str) -> explanations.Play:
     explanation = explanations.last_explanation(text)
     if explanation is None:
         raise Wrong(f"{name} has no explanation: lines from `lost ..` to `end`")
-    return explanations.Play(looked_up(system), explanation)
+    return explanations.Play(document, explanation)
 
 
-def why_of(system: System, name: str, asked: argparse.Namespace) -> explanations.Play:
+def why_of(document: Document, name: str, asked: argparse.Namespace) -> explanations.Play:
     """The program's explanation of the starting states."""
     found = program.find(asked.program)
     if found is None:
         raise Wrong("the program isn't here, which explains it; ./build makes it")
-    play = why.explained(found, system)
+    play = why.explained(found, document)
     if play is None:
         raise Wrong(f"there is a composition from the starting states of {name}, so nothing is to be explained")
     return play
 
 
-def offers_of(system: System, roman: str | None) -> Any:
+def offers_of(document: Document, roman: str | None) -> Any:
     """What is offered from the start, by the program's own certificate."""
     found = program.find(roman)
     if found is None:
         raise Wrong("the program isn't here, which says what is offered; ./build makes it")
-    with plain_file(system) as file:
+    with plain_file(document) as file:
         done = program.run(found, "certify", file)
     if done.returncode != 0:
         raise Wrong(f"roman says: {(done.stdout or done.stderr).strip()}")
-    return offers_picture.picture(looked_up(system), done.stdout)
+    return offers_picture.picture(document, done.stdout)
 
 
 def drawn(asked: argparse.Namespace) -> str:
-    """What is asked for, as a text."""
+    """The drawing or the text that the words ask for."""
     if asked.explanation is not None or asked.why:
-        system = system_of(asked.system)
-        play = why_of(system, asked.system, asked) if asked.why else play_of(system, asked.explanation)
+        document = document_of(asked.system)
+        play = why_of(document, asked.system, asked) if asked.why else play_of(document, asked.explanation)
         if asked.first:
             return "\n".join([*why.first_step(play, asked.system), ""])
         if asked.text:
             return play.text(asked.all)
         picture = play.picture(asked.all)
     elif asked.offers:
-        picture = offers_of(system_of(asked.system), asked.program)
+        picture = offers_of(document_of(asked.system), asked.program)
     else:
         picture = system_picture(asked.system)
     return str(picture.source) if asked.dot else svg(picture)

@@ -2,8 +2,8 @@
 
 The plain document is of the least version, and says everything in the shortest way; expanding it again gives
 the same text. With --costs it writes the plain costs of a file of costs instead, in which items may name patterns and
-services. Mistakes are shown where they stand in the short one. The status is 3 where there are some, 5
-where the file can't be read, 7 where what it writes can't be written, and 0 otherwise. Part files are put in
+services. Mistakes are shown at their places in the short one. The status is 3 if there are some, 5 if the
+file can't be read, 7 if the output can't be written, and 0 otherwise. Part files are put in
 place.
 """
 
@@ -37,17 +37,17 @@ def main(arguments: Sequence[str] | None = None) -> int:
     try:
         checker = read(asked.file)
         reader = None
-        if checker.system is not None and asked.costs is not None:
-            reader = Reader(checker, checker.system, asked.costs)
+        if checker.document is not None and asked.costs is not None:
+            reader = Reader(checker, checker.document, asked.costs)
             checker.findings += [each for each in reader.read().findings if each.level is Level.ERROR]
     except OSError as error:
         print(f"roman-expand: {error.filename}: {error.strerror}", file=sys.stderr)
         return UNREADABLE
-    if checker.system is None or checker.findings:
+    if checker.document is None or checker.findings:
         for each in in_order(checker.findings):
             print(*each.shown(), sep="\n", file=sys.stderr)
         return WRONG
-    document = written(checker.system)
+    document = written(checker.document)
     if asked.map is not None:
         places = {pointer: str(span) for pointer, span in document.places.items()}
         Path(asked.map).write_text(json.dumps(places, indent=1) + "\n", encoding="utf-8")

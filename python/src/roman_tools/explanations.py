@@ -1,4 +1,4 @@
-"""Explanations of the program, told as a play: who requests what, who can't, and what changes."""
+"""Explanations of the program in words: the requests, the services that can't serve them, and what changes."""
 
 from __future__ import annotations
 
@@ -18,7 +18,7 @@ Outcome = tuple[str, str]
 
 
 def last_explanation(text: str) -> Explanation | None:
-    """The last explanation in a text, which may hold other replies too; None where there is none."""
+    """The last explanation in a text, which may have other replies too; None if there is none."""
     found: list[str] = []
     lines: list[str] = []
     for line in text.splitlines():
@@ -67,7 +67,7 @@ class Play:
     # Which service is which.
 
     def target_after(self, entry: Lost) -> str | None:
-        """The target's state after the request of an entry, or None where the document has none."""
+        """The target's state after the request of an entry, or None if the document has none."""
         if entry.request is None or entry.environment not in self.document.environment.states:
             return None
         try:
@@ -226,7 +226,7 @@ class Play:
         return ", ".join(f"{self.entries[number].request} by {reply.names[0]}" for number, reply, _ in chain if reply)
 
     def changes(self, number: int) -> list[str]:
-        """What is different from the present pair, service by service."""
+        """The differences from the present pair, service by service."""
         start, entry = self.entries[-1], self.entries[number]
         return [
             f"{self.names[seat]}: {before} → {after}"
@@ -284,7 +284,7 @@ class Play:
                 yield f"    {', '.join(n for each in rest for n in each.names)} would lose too"
 
     def helpless(self, number: int) -> list[str]:
-        """Who can't take the request of an entry, and who isn't asked."""
+        """The services that can't take the request of an entry, and those that aren't asked."""
         cannot = [each.service for each in self.entries[number].answers if each.outcome is None]
         told = [f"cannot: {', '.join(cannot)}"] if cannot else []
         frozen = [self.names[seat] for seat in sorted(self.frozen)]

@@ -1,4 +1,4 @@
-"""What is found in documents: errors and warnings, each with its place."""
+"""Findings in documents: errors and warnings, each with its place."""
 
 from __future__ import annotations
 
@@ -12,7 +12,7 @@ from .reader import Span
 
 
 class Level(enum.Enum):
-    """How much a finding weighs."""
+    """The severity of a finding."""
 
     ERROR = "error"
     WARNING = "warning"
@@ -31,7 +31,7 @@ class Refusal:
     more: str = ""
 
     def __str__(self) -> str:
-        """The line that the program writes where this is the first refusal."""
+        """The line that the program writes if this is the first refusal."""
         line = f"refused {self.document} {self.kind} {self.part} {self.number} {self.list} {self.index}"
         return f"{line} {self.more}" if self.more else line
 
@@ -130,6 +130,6 @@ def repeats(findings: Sequence[Finding]) -> dict[Finding, Finding]:
 
 
 def meant(word: str, known: Iterable[str], nearness: float = 0.6) -> str:
-    """`; did you mean "..."?` where a known word is near."""
+    """`; did you mean "..."?` if a known word is near."""
     near = difflib.get_close_matches(word, list(known), n=1, cutoff=nearness)
     return f'; did you mean "{near[0]}"?' if near else ""

@@ -31,7 +31,7 @@ NAME: /(?!(?:and|or|not)(?![A-Za-z0-9_-]))[A-Za-z0-9_-]+/
 """
 
 Report = Callable[[Span, str], None]
-"""Is told of what is wrong, and where."""
+"""Gets each mistake with its place."""
 
 
 @functools.cache
@@ -210,7 +210,7 @@ def inner(guard: Value) -> str:
 
 
 def spot(text: Text, token: Token) -> Span:
-    """Where a word of a formula stands; the whole text where it has escapes."""
+    """The place of a word of a formula; the whole text if it has escapes."""
     if text.span.end - text.span.start != len(text.text) + 2:
         return text.span
     assert token.start_pos is not None and token.end_pos is not None

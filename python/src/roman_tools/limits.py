@@ -1,33 +1,49 @@
-"""How large a system is, beside its limit."""
+"""The size of a system, and its limit."""
 
 from __future__ import annotations
 
 import itertools
+import math
 
-from .checks import GREATEST_LIMIT
+from roman_client import Document
+
+from .checks import GREATEST_LIMIT, LIMIT
 from .findings import Finding, Level
-from .systems import System
+from .placed import limit_span
 
 
-def too_large(system: System) -> Finding | None:
-    """The finding that a system has more cells than its limit: what makes it large, and which limit would do."""
-    cells = system.cells
-    if cells <= system.limit:
+def cells(document: Document) -> int:
+    """The number of cells of a system: its pairs with an action."""
+    targets = math.prod(len(each.states) for each in document.targets)
+    services = math.prod(service_sizes(document))
+    return targets * len(document.environment.states) * services * len(document.actions)
+
+
+def service_sizes(document: Document) -> list[int]:
+    """The number of states of each service."""
+    return [len(document.behaviours[each.behaviour].states) for each in document.services]
+
+
+def too_large(document: Document) -> Finding | None:
+    """The finding that a system has more cells than its limit, with the factors and a sufficient limit."""
+    limit = document.value.get("limit", LIMIT)
+    count = cells(document)
+    if count <= limit:
         return None
-    size = f"the target, the environment, the services and the actions make {product(system)} = {cells:,} cells"
-    if cells > GREATEST_LIMIT:
+    size = f"the target, the environment, the services and the actions make {product(document)} = {count:,} cells"
+    if count > GREATEST_LIMIT:
         rest = f"the greatest limit is {GREATEST_LIMIT:,}, so fewer states or services are due"
     else:
-        rest = f'the limit is {system.limit:,}; write "limit": {rounded(cells)}'
-    return Finding(system.limit_span, Level.WARNING, f"{size}, and {rest}")
+        rest = f'the limit is {limit:,}; write "limit": {rounded(count)}'
+    return Finding(limit_span(document), Level.WARNING, f"{size}, and {rest}")
 
 
-def product(system: System) -> str:
-    """The number of cells as it comes about: equal services in a row as a power."""
-    sizes = [len(system.behaviours[each.behaviour].states) for each in system.services]
-    services = "·".join(power(size, len(list(run))) for size, run in itertools.groupby(sizes))
-    targets = "·".join(str(len(each.states)) for each in system.targets)
-    factors = (targets, str(len(system.environment.states)), services, str(len(system.combined_actions())))
+def product(document: Document) -> str:
+    """The number of cells as a product. Consecutive services of one size are a power."""
+    runs = itertools.groupby(service_sizes(document))
+    services = "·".join(power(size, len(list(run))) for size, run in runs)
+    targets = "·".join(str(len(each.states)) for each in document.targets)
+    factors = (targets, str(len(document.environment.states)), services, str(len(document.actions)))
     return " × ".join(each for each in factors if each)
 
 
@@ -36,6 +52,6 @@ def power(base: int, exponent: int) -> str:
 
 
 def rounded(cells: int) -> int:
-    """A limit with one digit other than 0 that leaves room for so many cells, or the greatest one."""
+    """A limit with one digit other than 0 that is enough for so many cells, or the greatest limit."""
     unit = int("1" + "0" * (len(str(cells)) - 1))
     return min(-(-cells // unit) * unit, GREATEST_LIMIT)

@@ -1,9 +1,9 @@
-"""roman-lint FILE [COSTS]: what is wrong with a document, and what is probably not meant, each with its place.
+"""roman-lint FILE [COSTS]: mistakes in a document, and what is probably not meant, each with its place.
 
 With a file of costs, as `advise` reads it, its mistakes are shown too, and the behaviours that have no cost in it.
 
-The last line is what the program says itself, and the program decides. The status is 3 where there are
-errors, 4 if the system is larger than its limit, 1 where there are warnings under --strict, 5 where the file can't
+The last line is the answer of the program, which decides. The status is 3 if there are errors, 4 if the
+system is larger than its limit, 1 if there are warnings under --strict, 5 if the file can't
 be read, and 0 otherwise.
 """
 
@@ -21,43 +21,44 @@ from .checks import Checker
 from .costs import Reader
 from .documents import plain_file, read
 from .findings import Finding, Level, grouped, in_order, repeats
+from .limits import too_large
 from .why import explained, first_step
 
 CLEAN, WARNED, WRONG, LARGE, UNREADABLE = 0, 1, 3, 4, 5
 
 
 def lint(name: str) -> list[Finding]:
-    """All findings in a document, in the order of its text. OSError where it can't be read."""
+    """All findings in a document, in the order of its text. Raises OSError if it can't be read."""
     return all_findings(read(name))
 
 
 def all_findings(checker: Checker) -> list[Finding]:
     """The errors of a document that was read, and its warnings: causes first, each with what follows from it."""
     findings = in_order([*checker.findings, *of_text(checker)])
-    if checker.system is None:
+    if checker.document is None:
         return grouped(findings, repeats(findings))
-    return [*findings, *judged(checker.system)]
+    return [*findings, *judged(checker.document)]
 
 
 def said(words: argparse.Namespace, checker: Checker) -> list[str]:
-    """What the program says of the document, in a line, and why it has no composition: of a short one, what it says of
+    """The program's answer to the document in one line, and why it has no composition: of a short one, its answer of
     the plain one, and with a file of costs what it says of both. Nothing if the program isn't here."""
     found = None if words.no_program else program.find(words.program)
     if found is None:
         return []
-    if checker.short and checker.system is None:
+    if checker.short and checker.document is None:
         return ["nothing, since no plain document comes of it"]
     costs = None if checker.short else words.costs
     try:
         with contextlib.ExitStack() as stack:
             file = words.file
-            if checker.short and checker.system is not None:
-                file = stack.enter_context(plain_file(checker.system))
+            if checker.short and checker.document is not None:
+                file = stack.enter_context(plain_file(checker.document))
             done = program.run(found, "advise", file, costs, "1") if costs else program.run(found, "synth", file)
         lines = done.stdout.splitlines()
         told = [line for line in lines if line.startswith(("refused ", "limit ", "answer ", "worst "))]
         answer = (told or done.stderr.splitlines() or [f"status {done.returncode}"])[-1]
-        play = None if answer != "answer none" or checker.system is None else explained(found, checker.system)
+        play = None if answer != "answer none" or checker.document is None else explained(found, checker.document)
         return [answer, *(first_step(play, words.file) if play else [])]
     except OSError as error:
         return [f"can't be called: {error.strerror}"]
@@ -86,8 +87,8 @@ def main(arguments: Sequence[str] | None = None) -> int:
     try:
         checker = read(asked.file)
         findings = all_findings(checker)
-        if asked.costs is not None and checker.system is not None:
-            findings += in_order(Reader(checker, checker.system, asked.costs).read().findings)
+        if asked.costs is not None and checker.document is not None:
+            findings += in_order(Reader(checker, checker.document, asked.costs).read().findings)
     except OSError as error:
         print(f"roman-lint: {error.filename}: {error.strerror}", file=sys.stderr)
         return UNREADABLE
@@ -105,7 +106,7 @@ def main(arguments: Sequence[str] | None = None) -> int:
         print(*answer[1:], sep="\n", end="\n" if answer[1:] else "")
     if errors:
         return WRONG
-    if checker.system is not None and checker.system.cells > checker.system.limit:
+    if checker.document is not None and too_large(checker.document):
         return LARGE
     return WARNED if warnings and asked.strict else CLEAN
 

@@ -1,4 +1,4 @@
-"""roman-mend SYSTEM [SESSION]: what would help where there is no composition.
+"""roman-mend SYSTEM [SESSION]: what would help if there is no composition.
 
 Tries each single change of the present states by the program itself, and writes those after which there is a
 composition, the cheapest first: each as the line of a session, and in words. The states are those of the document,
@@ -21,23 +21,22 @@ from roman_client.remedies import free_name, joins_loose
 from roman_client.replies import report_of
 
 from . import finished, program
-from .documents import looked_up, plain_file, read
+from .documents import plain_file, read
 from .findings import in_order
 from .lint import UNREADABLE, WRONG
 from .pictures import Wrong
-from .systems import System
 
 DONE, NOTHING = 0, 1
 """The statuses: something helps, or nothing has to; nothing helps."""
 
 
-def present(roman: str, system: System, session: str | None) -> Report:
-    """The report at the end of a session; without one that of the document. Raises Wrong where the program gives
+def present(roman: str, document: Document, session: str | None) -> Report:
+    """The report at the end of a session, or of the document without one. Raises Wrong if the program writes
     none."""
     lines = [] if session is None else Path(session).read_text(encoding="utf-8", errors="replace").splitlines()
     if "quit" in (line.strip() for line in lines):
         lines = lines[: [line.strip() for line in lines].index("quit")]
-    with plain_file(system) as file, tempfile.NamedTemporaryFile("w", encoding="utf-8") as whole:
+    with plain_file(document) as file, tempfile.NamedTemporaryFile("w", encoding="utf-8") as whole:
         whole.write("".join(f"{line}\n" for line in (*lines, "report")))
         whole.flush()
         done = program.run(roman, "run", file, whole.name)
@@ -45,7 +44,7 @@ def present(roman: str, system: System, session: str | None) -> Report:
 
 
 def last_report(done: subprocess.CompletedProcess[str]) -> Report:
-    """The last report that the program wrote. Raises Wrong where it wrote none."""
+    """The last report that the program wrote. Raises Wrong if there is none."""
     lines = done.stdout.splitlines()
     starts = [place for place, line in enumerate(lines) if line.startswith("pairs ")]
     if done.returncode != 0 or not starts:
@@ -127,15 +126,15 @@ def main(arguments: Sequence[str] | None = None) -> int:
     asked = parser().parse_args(arguments)
     try:
         checker = read(asked.system)
-        if checker.system is None:
+        if checker.document is None:
             for each in in_order(checker.findings):
                 print(*each.shown(), sep="\n", file=sys.stderr)
             return WRONG
         roman = program.find(asked.program)
         if roman is None:
             raise Wrong("the program isn't here; ./build makes it")
-        document = looked_up(checker.system)
-        report = present(roman, checker.system, asked.session)
+        document = checker.document
+        report = present(roman, document, asked.session)
         if asked.spare:
             return write_spares(roman, document, report)
         return write_remedies(roman, document, report, asked.two)

@@ -53,7 +53,7 @@ class Arena:
         return self.number(pair) not in self.lost
 
     def outcomes(self, pair: Pair, request: str, seat: int) -> list[Pair]:
-        """The pairs to which a service may lead by a request that is allowed; none where it can't take it."""
+        """The pairs to which a service may lead by an allowed request; none if it can't take it."""
         service = self.document.services[seat]
         target = self.document.target_after(pair.target, pair.environment, request)
         if service.frozen or target is None:

@@ -1,4 +1,4 @@
-"""How pictures look: colours, labels, and Graphviz."""
+"""The look of pictures: colours, labels, and Graphviz."""
 
 from __future__ import annotations
 
@@ -20,7 +20,7 @@ FONT = "Helvetica,Arial,sans-serif"
 
 
 class Wrong(Exception):
-    """Something can't be drawn."""
+    """An input from which no picture can be made."""
 
 
 def graph(direction: str, **options: str) -> graphviz.Digraph:

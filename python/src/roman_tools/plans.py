@@ -244,7 +244,7 @@ def parts(everything: int, guards: set[int]) -> list[int]:
 
 
 def free_name(action: str, taken: set[str]) -> str:
-    """`after-ACTION`, with a number where that is taken."""
+    """`after-ACTION`, with a number if that name is taken."""
     base = f"after-{action}"[:29]
     names = itertools.chain([base], (f"{base}-{number}" for number in itertools.count(2)))
     return next(name for name in names if name not in taken)

@@ -23,6 +23,6 @@ def find(given: str | None = None) -> str | None:
 
 
 def run(program: str, *words: str, text: str = "") -> subprocess.CompletedProcess[str]:
-    """What the program writes for these words, and for that text at its standard input. OSError where it can't be
+    """What the program writes for these words and that standard input. Raises OSError if it can't be
     started."""
     return subprocess.run([program, *words], input=text, capture_output=True, text=True, errors="replace", check=False)

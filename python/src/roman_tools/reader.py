@@ -1,4 +1,4 @@
-"""JSON texts, read into values that know where they stand.
+"""JSON texts, read into values with their places.
 
 The texts that are read are those that the program reads: the same numbers, escapes and depths. What it
 refuses as `notjson` is `Broken`.
@@ -100,7 +100,7 @@ class Span:
 
 
 class Broken(Exception):
-    """A text that isn't JSON, and where."""
+    """A text isn't JSON, at this place."""
 
     def __init__(self, span: Span, message: str) -> None:
         super().__init__(message)
@@ -110,7 +110,7 @@ class Broken(Exception):
 
 @dataclass(frozen=True)
 class Value:
-    """A JSON value and where it stands."""
+    """A JSON value and its place."""
 
     span: Span
 
@@ -245,7 +245,7 @@ class Builder(Transformer_NonRecursive):
 
 
 def parsed(source: Source) -> Value:
-    """The value that a text reads as. Raises `Broken` where the program reads none."""
+    """The value of a text. Raises `Broken` if the program refuses the text."""
     try:
         tree = parser().parse(source.text)
     except UnexpectedInput as error:
@@ -372,7 +372,7 @@ class Shelf:
         self._sources: dict[str, tuple[Source, int]] = {}
 
     def source(self, name: str) -> tuple[Source, int]:
-        """A file's text, and how many bytes it has. OSError where it can't be read."""
+        """A file's text, and how many bytes it has. Raises OSError if it can't be read."""
         if name not in self._sources:
             try:
                 data = (self._folder / name).read_bytes()

@@ -1,71 +1,75 @@
-"""Systems as they would be without the cause of a finding: what isn't found in them follows from it."""
+"""Documents without the cause of a finding. A finding that isn't found in them is a consequence of that cause."""
 
 from __future__ import annotations
 
-from collections.abc import Collection
-from dataclasses import replace
+from collections.abc import Callable, Collection
+from typing import Any
 
-from .systems import Machine, Move, System
+from roman_client import Document
+
+from .placed import PlacedList, replaced, span_of
 
 Part = tuple[str, int]
 """The kind of a machine, `behaviour` or `target`, and its number."""
 
 
-def everywhere(system: System) -> int:
-    """All states of the environment, a bit for each."""
-    return (1 << len(system.environment.states)) - 1
+def with_moves(document: Document, action: str, states: Collection[str], to: Collection[str] = ()) -> Document:
+    """The document in which the environment has steps on an action also from these states: to each of `to`, or back to
+    the same state."""
+    environment = document.environment
+    missing = set(states) - environment.before(action)
+    before = [state for state in environment.states if state in missing]
+    span = span_of(environment.start)
+    moves = [PlacedList([one, action, other], span, [span] * 3) for one in before for other in (to or (one,))]
+    value = document.value["environment"]
+    return Document(replaced(document.value, environment=replaced(value, steps=[*value["steps"], *moves])))
 
 
-def with_moves(system: System, action: int, states: int, to: Collection[int] = ()) -> System:
-    """The system in which an action also leads from these states of the environment, if it doesn't yet: to other
-    ones, or back to the same."""
-    environment = system.environment
-    missing = states & ~environment.taken(action)
-    before = [number for number in range(len(environment.states)) if missing >> number & 1]
-    moves = [Move(one, action, other, environment.span) for one in before for other in (to or (one,))]
-    return replace(system, environment=replace(environment, moves=[*environment.moves, *moves]))
-
-
-def with_guards(system: System, part: Part, numbers: Collection[int]) -> System:
-    """The system in which the guards of these steps always hold."""
+def with_machine(document: Document, part: Part, change: Callable[[Any], dict[str, Any]]) -> Document:
+    """The document in which some members of a behaviour or a target have other values."""
     kind, number = part
-    machines = list(system.behaviours if kind == "behaviour" else system.targets)
-    machines[number] = opened(system, machines[number], numbers)
-    if kind == "behaviour":
-        return replace(system, behaviours=machines)
-    return replace(system, targets=machines)
+    if kind == "target" and document.version != 3:
+        target = document.value["target"]
+        return Document(replaced(document.value, target=replaced(target, **change(target))))
+    machines = list(document.value[f"{kind}s"])
+    machines[number] = replaced(machines[number], **change(machines[number]))
+    return Document(replaced(document.value, **{f"{kind}s": machines}))
 
 
-def opened(system: System, machine: Machine, numbers: Collection[int]) -> Machine:
-    """A machine with these steps in all states of the environment."""
-    always = everywhere(system)
-    steps = enumerate(machine.steps)
-    return replace(machine, steps=[replace(step, guard=always) if at in numbers else step for at, step in steps])
+def with_guards(document: Document, part: Part, numbers: Collection[int]) -> Document:
+    """The document in which the guards of these steps always hold."""
+
+    def opened(step: Any) -> PlacedList:
+        return PlacedList([step[0], True, *step[2:]], step.span, step.spans)
+
+    def steps(machine: Any) -> dict[str, Any]:
+        return {"steps": [opened(step) if at in numbers else step for at, step in enumerate(machine["steps"])]}
+
+    return with_machine(document, part, steps)
 
 
-def with_requests(system: System, action: int) -> System:
-    """The system in which the targets' requests for an action have no guards, and the environment takes it."""
-    targets = [
-        opened(system, target, [at for at, step in enumerate(target.steps) if step.action == action])
-        for target in system.targets
-    ]
-    return with_moves(replace(system, targets=targets), action, everywhere(system), places_of(system, action))
+def with_requests(document: Document, action: str) -> Document:
+    """The document in which the targets' requests for an action have no guards, and the environment takes it."""
+    to = places_of(document, action)
+    for seat, target in enumerate(document.targets):
+        numbers = [at for at, step in enumerate(target.steps) if step.action == action]
+        document = with_guards(document, ("target", seat), numbers)
+    return with_moves(document, action, document.environment.states, to)
 
 
-def with_way_on(system: System, seat: int, state: int, action: int, states: int) -> System:
-    """The system in which a target goes on from a state: none of its guards is in the way, and the environment takes
-    the action in these states."""
-    numbers = [at for at, step in enumerate(system.targets[seat].steps) if step.state == state]
-    return with_moves(with_guards(system, ("target", seat), numbers), action, states, places_of(system, action))
+def with_way_on(document: Document, seat: int, state: str, action: str, states: Collection[str]) -> Document:
+    """The document in which a target can continue from a state: the guards of its steps always hold, and the
+    environment has a step on the action in these states."""
+    numbers = [at for at, step in enumerate(document.targets[seat].steps) if step.state == state]
+    opened = with_guards(document, ("target", seat), numbers)
+    return with_moves(opened, action, states, places_of(document, action))
 
 
-def with_final(system: System, seat: int, state: int) -> System:
-    """The system in which a state of a target is final."""
-    targets = list(system.targets)
-    targets[seat] = replace(targets[seat], finals=targets[seat].finals | {state})
-    return replace(system, targets=targets)
+def with_final(document: Document, seat: int, state: str) -> Document:
+    """The document in which a state of a target is final."""
+    return with_machine(document, ("target", seat), lambda target: {"final": [*target["final"], state]})
 
 
-def places_of(system: System, action: int) -> set[int]:
+def places_of(document: Document, action: str) -> list[str]:
     """The states of the environment to which an action leads."""
-    return {move.to for move in system.environment.moves if move.action == action}
+    return list(dict.fromkeys(step.to for step in document.environment.steps if step.action == action))

@@ -1,4 +1,4 @@
-"""The short form of documents, and what it stands for: a plain document whose words know where they come from.
+"""The short form of documents, and its expansion: a plain document whose words keep their places.
 
 An environment by variables, steps that say what changes and leave the rest, guards in words, behaviours with
 parameters, services by count, targets by plans. What isn't said in a short way stands as in a plain document, so
@@ -143,7 +143,7 @@ class Expander:
         self.checker.findings.append(Finding(span, Level.ERROR, message))
 
     def from_file(self, value: Value, word: str, number: int) -> Value | None:
-        """A part, from its file where it is given by one."""
+        """A part, from its file if it is given by one."""
         if not isinstance(value, Members) or "file" not in value.last:
             return value
         part = self.checker.part(value, word, number, f"{word} {number}")
@@ -152,7 +152,7 @@ class Expander:
     # The document.
 
     def expand(self, document: Members) -> Members | None:
-        """The plain document, or None where something is wrong."""
+        """The plain document, or None if something is wrong."""
         document = self.with_parts(document)
         if self.checker.findings or not self.has_form(document):
             return None
@@ -435,7 +435,7 @@ class Expander:
             )
 
     def instance(self, template: Template, service: Members, given: dict[str, str]) -> str:
-        """The name of the behaviour that a service needs of one with parameters, made where it is new."""
+        """The name of the behaviour that a pattern becomes for a service, which is made if it is new."""
         arguments = dict(template.defaults)
         with_value = service.get("with")
         if isinstance(with_value, Members):
@@ -592,7 +592,7 @@ class Expander:
 
 
 def parameters(value: Members) -> dict[str, str | None]:
-    """The parameters of a behaviour with what they are where nothing is given."""
+    """The parameters of a behaviour with their defaults."""
     listed = value.get("parameters")
     if isinstance(listed, Members):
         return {name: word_of(member.value) for name, member in listed.last.items()}
@@ -652,7 +652,7 @@ def is_false(value: Value | None) -> bool:
 
 
 def span_of(value: Members, *names: str) -> Span:
-    """Where the first of these members stands that is there; else where the object begins."""
+    """The place of the first of these members that is present, or else the beginning of the object."""
     for name in names:
         if name in value.last:
             return value.last[name].value.span
@@ -663,7 +663,7 @@ def span_of(value: Members, *names: str) -> Span:
 
 
 def told(document: Members, error: ValidationError) -> tuple[Span, str]:
-    """Where a value stands that hasn't its form, and what is wrong."""
+    """The place of a value of the wrong form, and the mistake."""
     value: Value = document
     for step in error.absolute_path:
         found = value.get(str(step)) if isinstance(value, Members) else items_of(value)[int(step)]

@@ -8,9 +8,12 @@ from collections.abc import Iterable, Sequence
 from dataclasses import dataclass, field
 from typing import Any
 
+from roman_client.documents import holds
+
 from .checks import Checker, Part
 from .findings import Finding
 from .pictures import CHOICE, FADED, GUARD, PLAIN, WRONG, coloured, folded, graph, html, marked
+from .placed import placed
 from .reader import Constant, Items, Members, Number, Span, Text, Value
 from .short_form import Worded
 
@@ -36,12 +39,12 @@ class Drawn:
     action: str
     guard: str
     holds: set[str] | None
-    """The environment states in which it can be taken; None where that isn't known."""
+    """The environment states in which it can be taken; None if they aren't known."""
     spans: list[Span] = field(default_factory=list)
 
 
 def guard_text(value: Value) -> str:
-    """A guard in words; none where it is always true."""
+    """A guard in words; the empty text if it is always true."""
     if isinstance(value, Worded):
         return value.words
     if isinstance(value, Constant):
@@ -72,22 +75,11 @@ def word_of(value: Value) -> str:
 
 
 def held(value: Value, states: set[str]) -> set[str] | None:
-    """The environment states that a guard means, or None where it is none."""
-    if isinstance(value, Constant):
-        return states if value.constant else set()
-    if isinstance(value, Items):
-        return {each.text for each in value.items if isinstance(each, Text)}
-    if not isinstance(value, Members) or len(value.last) != 1:
+    """The environment states in which a guard holds, or None if it isn't a guard."""
+    try:
+        return {each for each in states if holds(placed(value), each)}
+    except (AttributeError, TypeError, ValueError):
         return None
-    ((word, member),) = value.last.items()
-    inner = member.value.items if isinstance(member.value, Items) and word != "not" else [member.value]
-    masks = [held(each, states) for each in inner]
-    known = [each for each in masks if each is not None]
-    if len(known) < len(masks):
-        return None
-    if word == "not":
-        return states - known[0]
-    return states.intersection(*known) if word == "all" else set().union(*known)
 
 
 class Picture:

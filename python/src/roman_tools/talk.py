@@ -37,11 +37,10 @@ from roman_client.remedies import first_of_each
 
 from . import explanations, finished, program
 from .checks import Checker
-from .documents import looked_up, plain_file, read
+from .documents import plain_file, read
 from .findings import in_order, meant
 from .lint import UNREADABLE, WRONG
 from .pictures import Wrong
-from .systems import System
 
 EVENTS: dict[str, tuple[str, str]] = {
     "do": ("ACTION", "request an action; the services that may serve it are offered"),
@@ -181,14 +180,14 @@ def beside(lines: Sequence[str], replies: Sequence[str], follower: Follower) -> 
 @contextlib.contextmanager
 def document_of(checker: Checker) -> Iterator[str]:
     """A file that the program reads: the document itself, or the plain one of a short one."""
-    if checker.system is None or not checker.short:
+    if checker.document is None or not checker.short:
         yield checker.name
     else:
-        with plain_file(checker.system) as file:
+        with plain_file(checker.document) as file:
             yield file
 
 
-def echo(checker: Checker, system: System, roman: str, data: bytes) -> int:
+def echo(checker: Checker, document: Document, roman: str, data: bytes) -> int:
     """Runs a session that is whole, and shows it beside the replies. The program gets no `help`, which it hasn't."""
     with document_of(checker) as file, tempfile.TemporaryFile() as session:
         session.write(re.sub(rb"^[ \t]*help[ \t]*(?=\r?$)", b"", data, flags=re.M))
@@ -196,7 +195,7 @@ def echo(checker: Checker, system: System, roman: str, data: bytes) -> int:
         done = subprocess.run([roman, "run", file], stdin=session, stdout=subprocess.PIPE, check=False)
     lines = data.decode("utf-8", "replace").splitlines()
     replies = done.stdout.decode("utf-8", "replace").splitlines()
-    for line in beside(lines, replies, Follower(looked_up(system))):
+    for line in beside(lines, replies, Follower(document)):
         print(line)
     return done.returncode
 
@@ -297,7 +296,7 @@ class Talk:
         return not self.report.final and not self.allowed()
 
     def remedies(self) -> list[str]:
-        """What would help where there is no composition."""
+        """What would help if there is no composition."""
         found = mend(self.document, self.report, program=self.session.core.words)
         shown = [f"  now: {remedy.lines[0]} would help ({remedy})" for remedy in first_of_each(found, REMEDIES)]
         return shown or ["  now: no single change would help; roman-mend --two tries pairs"]
@@ -392,7 +391,7 @@ class Talk:
         return f"{related} ({report.related} of {report.pairs} pairs are related)"
 
     def explained(self) -> str:
-        """The explanation as a play; as the program writes it where that can't be told."""
+        """The explanation in words, or as the program writes it if it can't be put in words."""
         explanation = self.session.explain()
         try:
             return explanations.Play(self.document, explanation).text(False).rstrip("\n")
@@ -436,10 +435,10 @@ def prepare(talk: Talk) -> None:
     readline.parse_and_bind("tab: complete")
 
 
-def talk_at_terminal(checker: Checker, system: System, roman: str) -> int:
+def talk_at_terminal(checker: Checker, document: Document, roman: str) -> int:
     """Asks for lines until the end."""
     with document_of(checker) as file, Session(file, program=roman) as session:
-        talk = Talk(looked_up(system), session)
+        talk = Talk(document, session)
         prepare(talk)
         print(shown(session.opening, talk.document))
         print("help says what a line may be; the tab key completes names")
@@ -460,7 +459,7 @@ def talk_at_terminal(checker: Checker, system: System, roman: str) -> int:
 
 
 def unproved() -> str | None:
-    """The script of the repository that runs the sources where the program isn't built."""
+    """The script of the repository that runs the sources if the program isn't built."""
     script = program.PACKAGES.parents[1] / "roman"
     return str(script) if os.access(script, os.X_OK) and script.is_file() else None
 
@@ -472,7 +471,7 @@ def main(arguments: Sequence[str] | None = None) -> int:
     asked = words.parse_args(arguments)
     try:
         checker = read(asked.system)
-        if checker.system is None:
+        if checker.document is None:
             for each in in_order(checker.findings):
                 print(*each.shown(), sep="\n", file=sys.stderr)
             return WRONG
@@ -481,8 +480,8 @@ def main(arguments: Sequence[str] | None = None) -> int:
             print("roman-talk: the program isn't here; ./build makes it", file=sys.stderr)
             return UNREADABLE
         if sys.stdin.isatty():
-            return talk_at_terminal(checker, checker.system, roman)
-        return echo(checker, checker.system, roman, sys.stdin.buffer.read())
+            return talk_at_terminal(checker, checker.document, roman)
+        return echo(checker, checker.document, roman, sys.stdin.buffer.read())
     except OSError as error:
         if error.filename is None:
             raise  # What it writes can't be written.

@@ -1,4 +1,4 @@
-"""Which states a target reaches together with its environment, and from which of them it can't go on."""
+"""The states that a target reaches together with its environment, and those in which it can go no further."""
 
 from __future__ import annotations
 
@@ -6,14 +6,14 @@ from collections import deque
 from dataclasses import dataclass
 from typing import NamedTuple
 
-from .systems import Machine, Step, System
+from roman_client.documents import Document, Step
 
 
 class Pair(NamedTuple):
     """A state of each target, and one of the environment."""
 
-    targets: tuple[int, ...]
-    environment: int
+    targets: tuple[str, ...]
+    environment: str
 
 
 @dataclass(frozen=True)
@@ -26,21 +26,30 @@ class Stuck:
 
 
 class Walk:
-    """All pairs to which requests lead from the start. Each request is assumed to be served, and each step of the
-    environment on it may follow."""
+    """All pairs that requests reach from the start. Each request is assumed to be served, and every step of the
+    environment on its action may follow."""
 
-    def __init__(self, system: System) -> None:
-        self.system = system
-        self.after: dict[tuple[int, int], list[int]] = {}
-        for move in system.environment.moves:
+    def __init__(self, document: Document) -> None:
+        self.document = document
+        environment = document.environment
+        self.after: dict[tuple[str, str], list[str]] = {}
+        for move in environment.steps:
             self.after.setdefault((move.state, move.action), []).append(move.to)
-        self.steps = [steps_by_state(target) for target in system.targets]
-        start = Pair(tuple(target.start for target in system.targets), system.environment.start)
+        self.steps: list[dict[str, list[tuple[Step, frozenset[str]]]]] = [{} for _ in document.targets]
+        """The steps of each target by their states, with the environment's states in which their guards hold."""
+        for found, target in zip(self.steps, document.targets):
+            for step in target.steps:
+                found.setdefault(step.state, []).append((step, environment.states_in(step.guard)))
+        start = Pair(tuple(target.start for target in document.targets), environment.start)
         self.came_by: dict[Pair, tuple[Pair, str] | None] = {start: None}
         self.next: dict[Pair, set[Pair]] = {}
-        self.requested: set[int] = set()
+        self.requested: set[str] = set()
         """The actions that are allowed in some pair."""
         self._explore(start)
+
+    def is_of(self, document: Document) -> bool:
+        """Whether a document has the same environment and targets."""
+        return (self.document.environment, self.document.targets) == (document.environment, document.targets)
 
     def _explore(self, start: Pair) -> None:
         waiting = deque([start])
@@ -58,7 +67,7 @@ class Walk:
 
     @property
     def size(self) -> int:
-        """How many steps lead from one pair to another."""
+        """The number of steps between pairs."""
         return sum(len(each) for each in self.next.values())
 
     def allowed(self, pair: Pair) -> list[tuple[int, Step]]:
@@ -66,18 +75,17 @@ class Walk:
         return [
             (seat, step)
             for seat, state in enumerate(pair.targets)
-            for step in self.steps[seat].get(state, ())
-            if step.guard >> pair.environment & 1 and (pair.environment, step.action) in self.after
+            for step, states in self.steps[seat].get(state, ())
+            if pair.environment in states and (pair.environment, step.action) in self.after
         ]
 
     def title(self, seat: int, step: Step) -> str:
         """The name of a request in a session."""
-        action = self.system.environment.actions[step.action].text
-        name = self.system.targets[seat].name
-        return f"{action}-{name.text}" if len(self.system.targets) > 1 and name else action
+        name = self.document.targets[seat].name
+        return f"{step.action}-{name}" if name else step.action
 
-    def reached(self, seat: int) -> set[int]:
-        """The states into which a target comes."""
+    def reached(self, seat: int) -> set[str]:
+        """The states that a target reaches."""
         return {pair.targets[seat] for pair in self.came_by}
 
     def way(self, pair: Pair) -> tuple[str, ...]:
@@ -95,15 +103,15 @@ class Walk:
         for pair in self.came_by:
             if self.next[pair]:
                 continue
-            for seat, (state, target) in enumerate(zip(pair.targets, self.system.targets)):
-                if state not in target.finals:
+            for seat, (state, target) in enumerate(zip(pair.targets, self.document.targets)):
+                if state not in target.final:
                     found.append(Stuck(seat, pair, self.way(pair)))
         return found
 
     def without_final(self, seat: int) -> list[Pair]:
-        """The pairs from which a target comes into no final state, and into no pair that allows nothing."""
-        target = self.system.targets[seat]
-        ends = {pair for pair in self.came_by if pair.targets[seat] in target.finals or not self.next[pair]}
+        """The pairs from which a target reaches neither a final state nor a pair that allows nothing."""
+        target = self.document.targets[seat]
+        ends = {pair for pair in self.came_by if pair.targets[seat] in target.final or not self.next[pair]}
         before: dict[Pair, list[Pair]] = {}
         for pair, following in self.next.items():
             for each in following:
@@ -115,10 +123,3 @@ class Walk:
                     ends.add(each)
                     waiting.append(each)
         return [pair for pair in self.came_by if pair not in ends]
-
-
-def steps_by_state(target: Machine) -> dict[int, list[Step]]:
-    found: dict[int, list[Step]] = {}
-    for step in target.steps:
-        found.setdefault(step.state, []).append(step)
-    return found

@@ -1,4 +1,4 @@
-"""Plain documents as texts: of the least version, with guards and steps said in the shortest way."""
+"""Plain documents as texts, of the least version, with guards and steps in the shortest form."""
 
 from __future__ import annotations
 
@@ -6,14 +6,16 @@ import json
 from collections.abc import Sequence
 from dataclasses import dataclass, field
 
+from roman_client import Document, Environment, Machine
+
 from .checks import LIMIT
+from .placed import span_of
 from .reader import Span
-from .systems import Environment, Machine, Name, Service, System
 
 
 @dataclass
 class Written:
-    """A document's text, and where each of its names and steps comes from, by JSON pointers."""
+    """The text of a document, and the place of each of its names and steps in the source, by JSON pointers."""
 
     lines: list[str] = field(default_factory=list)
     places: dict[str, Span] = field(default_factory=dict)
@@ -23,115 +25,107 @@ class Written:
         return "".join(f"{line}\n" for line in self.lines)
 
 
-def written(system: System) -> Written:
-    """The plain document of a system."""
-    document = Written()
-    several = len(system.targets) > 1
-    loose = any(not service.rests for service in system.services)
+def written(document: Document) -> Written:
+    """The plain text of a document."""
+    found = Written()
+    several = len(document.targets) > 1
+    loose = any(service.loose for service in document.services)
     members = [f'"roman": {3 if several else 2 if loose else 1}']
-    if system.limit != LIMIT:
-        members.append(f'"limit": {system.limit}')
-    env = system.environment
-    members.append('"environment": ' + environment_text(document, env))
+    limit = document.value.get("limit", LIMIT)
+    if limit != LIMIT:
+        members.append(f'"limit": {limit}')
+    env = document.environment
+    members.append('"environment": ' + environment_text(found, env))
     behaviours = [
-        machine_text(document, f"/behaviours/{number}", each, env, 2, True)
-        for number, each in enumerate(system.behaviours)
+        machine_text(found, f"/behaviours/{number}", each, env, 2)
+        for number, each in enumerate(document.behaviours.values())
     ]
     members.append('"behaviours": ' + block(behaviours, 1))
-    members.append('"services": ' + block([service_text(document, i, system) for i in range(len(system.services))], 1))
+    members.append('"services": ' + block([service_text(found, i, document) for i in range(len(document.services))], 1))
     if several:
         targets = [
-            machine_text(document, f"/targets/{number}", each, env, 2, True)
-            for number, each in enumerate(system.targets)
+            machine_text(found, f"/targets/{number}", each, env, 2) for number, each in enumerate(document.targets)
         ]
         members.append('"targets": ' + block(targets, 1))
     else:
-        members.append('"target": ' + machine_text(document, "/target", system.targets[0], env, 1, False))
-    document.lines = ("{\n  " + ",\n  ".join(members) + "\n}").split("\n")
-    return document
+        members.append('"target": ' + machine_text(found, "/target", document.targets[0], env, 1))
+    found.lines = ("{\n  " + ",\n  ".join(members) + "\n}").split("\n")
+    return found
 
 
 def block(items: Sequence[str], depth: int, brackets: str = "[]") -> str:
-    """Items one below the other, so far to the right."""
+    """Items on lines of their own, at this depth of indentation."""
     if not items:
         return brackets
     inner, outer = "  " * (depth + 1), "  " * depth
     return brackets[0] + "\n" + ",\n".join(inner + each for each in items) + "\n" + outer + brackets[1]
 
 
-def names_text(document: Written, pointer: str, names: Sequence[Name]) -> str:
+def names_text(found: Written, pointer: str, names: Sequence[str]) -> str:
     for number, name in enumerate(names):
-        document.places[f"{pointer}/{number}"] = name.span
-    return json.dumps([name.text for name in names])
+        found.places[f"{pointer}/{number}"] = span_of(name)
+    return json.dumps(names)
 
 
-def environment_text(document: Written, env: Environment) -> str:
-    moves: dict[tuple[int, int, int], Span] = {}
-    for move in env.moves:
-        moves.setdefault((move.state, move.action, move.to), move.span)
+def environment_text(found: Written, env: Environment) -> str:
     steps = []
-    for number, ((state, action, to), span) in enumerate(moves.items()):
-        document.places[f"/environment/steps/{number}"] = span
-        steps.append(json.dumps([env.states[state].text, env.actions[action].text, env.states[to].text]))
+    for number, step in enumerate(dict.fromkeys(env.steps)):
+        found.places[f"/environment/steps/{number}"] = span_of(step.source)
+        steps.append(json.dumps([step.state, step.action, step.to]))
     members = [
-        '"states": ' + names_text(document, "/environment/states", env.states),
-        '"start": ' + json.dumps(env.states[env.start].text),
-        '"actions": ' + names_text(document, "/environment/actions", env.actions),
+        '"states": ' + names_text(found, "/environment/states", env.states),
+        '"start": ' + json.dumps(env.start),
+        '"actions": ' + names_text(found, "/environment/actions", env.actions),
         '"steps": ' + block(steps, 2),
     ]
     return block(members, 1, "{}")
 
 
-def machine_text(document: Written, pointer: str, machine: Machine, env: Environment, depth: int, named: bool) -> str:
-    """A behaviour or a target. Steps that only their guards tell apart are one; those that can never be taken
-    are left out."""
-    guards: dict[tuple[int, int, int], int] = {}
-    spans: dict[tuple[int, int, int], Span] = {}
+def machine_text(found: Written, pointer: str, machine: Machine, env: Environment, depth: int) -> str:
+    """Writes a behaviour or a target. Steps that differ only in their guards become one step, and steps that can never
+    be taken are left out."""
+    guards: dict[tuple[str, str, str], frozenset[str]] = {}
+    spans: dict[tuple[str, str, str], Span] = {}
     for step in machine.steps:
-        if step.guard:
+        states = env.states_in(step.guard)
+        if states:
             key = (step.state, step.action, step.to)
-            guards[key] = guards.get(key, 0) | step.guard
-            spans.setdefault(key, step.span)
+            guards[key] = guards.get(key, frozenset()) | states
+            spans.setdefault(key, span_of(step.source))
     steps = []
-    for number, ((state, action, to), guard) in enumerate(guards.items()):
-        document.places[f"{pointer}/steps/{number}"] = spans[state, action, to]
-        words = [
-            json.dumps(each) for each in (machine.states[state].text, env.actions[action].text, machine.states[to].text)
-        ]
-        steps.append(f"[{words[0]}, {guard_text(guard, env)}, {words[1]}, {words[2]}]")
-    finals = [name.text for number, name in enumerate(machine.states) if number in machine.finals]
+    for number, ((state, action, to), states) in enumerate(guards.items()):
+        found.places[f"{pointer}/steps/{number}"] = spans[state, action, to]
+        words = [json.dumps(each) for each in (state, action, to)]
+        steps.append(f"[{words[0]}, {guard_text(states, env)}, {words[1]}, {words[2]}]")
     members = [
-        '"states": ' + names_text(document, f"{pointer}/states", machine.states),
-        '"start": ' + json.dumps(machine.states[machine.start].text),
-        '"final": ' + json.dumps(finals),
+        '"states": ' + names_text(found, f"{pointer}/states", machine.states),
+        '"start": ' + json.dumps(machine.start),
+        '"final": ' + json.dumps([state for state in machine.states if state in machine.final]),
         '"steps": ' + block(steps, depth + 1),
     ]
-    if named and machine.name:
-        document.places[f"{pointer}/name"] = machine.name.span
-        members.insert(0, '"name": ' + json.dumps(machine.name.text))
+    if machine.name:
+        found.places[f"{pointer}/name"] = span_of(machine.name)
+        members.insert(0, '"name": ' + json.dumps(machine.name))
     return block(members, depth, "{}")
 
 
-def guard_text(guard: int, env: Environment) -> str:
-    """The shortest guard that means these states."""
-    count = len(env.states)
-    if guard == (1 << count) - 1:
+def guard_text(states: frozenset[str], env: Environment) -> str:
+    """The shortest guard that holds in exactly these states."""
+    if len(states) == len(env.states):
         return "true"
-    inside = json.dumps([env.states[i].text for i in range(count) if guard >> i & 1])
-    outside = json.dumps({"not": [env.states[i].text for i in range(count) if not guard >> i & 1]})
+    inside = json.dumps([each for each in env.states if each in states])
+    outside = json.dumps({"not": [each for each in env.states if each not in states]})
     return min(inside, outside, key=len)
 
 
-def service_text(document: Written, number: int, system: System) -> str:
-    service: Service = system.services[number]
-    document.places[f"/services/{number}"] = service.span
-    behaviour = system.behaviours[service.behaviour]
-    assert behaviour.name is not None
-    value: dict[str, object] = {"name": service.name.text, "behaviour": behaviour.name.text}
-    if service.state != behaviour.start:
-        value["state"] = behaviour.states[service.state].text
+def service_text(found: Written, number: int, document: Document) -> str:
+    service = document.services[number]
+    found.places[f"/services/{number}"] = span_of(document.value["services"][number])
+    value: dict[str, object] = {"name": service.name, "behaviour": service.behaviour}
+    if service.state != document.behaviours[service.behaviour].start:
+        value["state"] = service.state
     if service.frozen:
         value["frozen"] = True
-    if not service.rests:
+    if service.loose:
         value["rests"] = False
     return json.dumps(value)

@@ -28,7 +28,7 @@ class Device:
 
     async def state(self, call: Call) -> Told:
         """What became of a call that was under way when the dispatcher was killed: where the device is now,
-        or NOT_DONE, or None where it can't tell."""
+        or NOT_DONE, or None if it doesn't know."""
         return None
 
 

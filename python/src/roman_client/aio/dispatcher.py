@@ -29,15 +29,15 @@ from .streams import run
 LOG = logging.getLogger("roman_client.dispatcher")
 
 AT_ONCE = 0.0005
-"""If the last commit took fewer seconds, the next one isn't worth a thread."""
+"""If a commit takes fewer seconds, it isn't worth a thread."""
 
 
 class Dispatcher:
     """Serves requests by devices, as `roman_client.Dispatcher` does.
 
-    `async with` begins it, and lets go of its store at the end of the block; or call `begin` and `close`.
+    `async with` begins it, and closes its store at the end of the block; or call `begin` and `close`.
     Requests and changes may come from several tasks, and take turns. A request that is cancelled while a
-    device is at work is in doubt, since nobody knows what it has done, and its service is frozen.
+    device is at work is in doubt, since the device may have done it, and its service is frozen.
     """
 
     def __init__(
@@ -68,8 +68,8 @@ class Dispatcher:
         self._draining: set[asyncio.Task[None]] = set()
 
     async def begin(self) -> Dispatcher:
-        """Takes the session as it stands, or has it go on from the store. Raises `StoreBroken` if that isn't one for
-        this document."""
+        """Begins with the present session, or continues from the store. Raises `StoreBroken` if the store is one of
+        another document."""
         self._begun = True
         try:
             await self._in_turn(lambda: self._core.begin(self.session.core.document))
@@ -78,11 +78,11 @@ class Dispatcher:
             raise
         return self
 
-    # What it knows.
+    # State.
 
     @property
     def core(self) -> Dispatching[Device]:
-        """What it knows and does, whatever the transport."""
+        """The part that doesn't depend on the transport."""
         if not self._begun:
             raise NotBegun("the dispatcher wasn't begun")
         return self._core
@@ -94,22 +94,22 @@ class Dispatcher:
 
     @property
     def failed(self) -> frozenset[str]:
-        """The services that are frozen since they failed, or were when the dispatcher began."""
+        """The services that are frozen because they failed, or were frozen when the dispatcher began."""
         return self.core.failed
 
     @property
     def served(self) -> int:
-        """How many requests were served, over all runs with this store."""
+        """The number of requests served, over all runs with this store."""
         return self.core.position.served
 
     @property
     def under_way(self) -> Call | None:
-        """What a device is at work on."""
+        """The call that is under way."""
         return self.core.under_way
 
     @property
     def recovered(self) -> Recovery | None:
-        """What became of the call that was under way when the dispatcher was killed."""
+        """The result of the call that was under way when the dispatcher was killed."""
         return self.core.recovered
 
     async def report(self) -> Report:
@@ -120,13 +120,13 @@ class Dispatcher:
             return await self._in_turn(lambda: self.core.event(protocol.report()))
 
     async def explain(self) -> Explanation:
-        """Why the present pair isn't related. Refused as `Related` where it is."""
+        """Why the present pair isn't related. Raises `Related` if it is."""
         return await self._in_turn(lambda: self.core.event(protocol.explain()))
 
     # Requests.
 
     async def request(self, action: str, key: str | None = None, source: str | None = None) -> Done:
-        """Has an action served, as `roman_client.Dispatcher.request` does."""
+        """Serves an action, as `roman_client.Dispatcher.request` does."""
         return await self._in_turn(lambda: self.core.request(action, key, source))
 
     async def record(
@@ -138,8 +138,8 @@ class Dispatcher:
         key: str | None = None,
         source: str | None = None,
     ) -> Done:
-        """Takes a request as served, with that outcome, and asks no device: so a request that was in doubt
-        is settled where it was done."""
+        """Records that a request was served, with that outcome. No device is asked. This settles a request in doubt
+        that was done."""
         return await self._in_turn(lambda: self.core.record(action, service, (state, environment), key, source))
 
     # Changes.
@@ -149,7 +149,7 @@ class Dispatcher:
         return await self._in_turn(lambda: self.core.event(event, source=source))
 
     async def thaw(self, service: str, state: str | None = None, source: str | None = None) -> Repair:
-        """A frozen service is back, in that state, or in the one that it had."""
+        """Takes a frozen service into use again, in that state, or in the one that it had."""
         return await self._in_turn(lambda: self.core.thaw(service, state, source))
 
     async def freeze(self, service: str) -> Repair:
@@ -157,7 +157,7 @@ class Dispatcher:
         return await self.change(protocol.freeze(service))
 
     async def die(self, service: str) -> Repair:
-        """A service is gone."""
+        """Removes a service for good."""
         return await self.change(protocol.die(service))
 
     async def join(
@@ -170,29 +170,29 @@ class Dispatcher:
         loose: bool = False,
         source: str | None = None,
     ) -> Repair:
-        """A new service joins, with its device."""
+        """Adds a service with its device."""
         return await self._in_turn(lambda: self.core.join(service, behaviour, state, loose, as_device(device), source))
 
     async def jump(self, service: str, state: str) -> None:
-        """A service is in that state now, whatever its transitions say."""
+        """Sets the state of a service, whatever its transitions are."""
         await self.change(protocol.jump(service, state))
 
     async def jumpenv(self, environment: str) -> None:
-        """The environment is in that state now, whatever its transitions say."""
+        """Sets the state of the environment, whatever its transitions are."""
         await self.change(protocol.jumpenv(environment))
 
     def post(
         self, event: Event[Value], cause: Frozen = Frozen.BY_HAND, source: str | None = None
     ) -> asyncio.Future[Value]:
-        """Has a change of `roman_client.protocol` made, as `jumpenv("dusk")`, without waiting for it: soon, or in its
-        turn if a request is open. It can be called by devices and policies, too. A freeze has that cause."""
+        """Schedules a change of `roman_client.protocol`, such as `jumpenv("dusk")`, and returns at once. If a request
+        is open, the change waits for its turn. Devices and policies may call this, too. `cause` is that of a freeze."""
         future: asyncio.Future[Value] = asyncio.get_running_loop().create_future()
         self.core.inbox.append(Posted(event, cause, source, functools.partial(settle, future)))
         self._drain_later()
         return future
 
     async def close(self) -> None:
-        """Lets go of the store. The session goes on."""
+        """Closes the store. The session continues."""
         if self._draining:
             await asyncio.wait(set(self._draining))
         if self._store is not None:
@@ -212,7 +212,7 @@ class Dispatcher:
     # Turns.
 
     async def _in_turn(self, steps: Callable[[], Steps[Value]]) -> Value:
-        """Waits for its turn, and gives the value of the steps."""
+        """Waits for a turn, and returns the value of the steps."""
         if self._inside is not None and self._inside is asyncio.current_task():
             raise InsideRequest("the request of this device or policy is open: call post")
         try:
@@ -222,82 +222,88 @@ class Dispatcher:
             self._drain_later()
 
     def _drain_later(self) -> None:
-        """Has done what was posted, if there is anything."""
+        """Starts to make the posted changes, if there are some."""
         if self.core.inbox:
             draining = asyncio.ensure_future(self._drain())
             self._draining.add(draining)
-            draining.add_done_callback(self._draining.discard)
+            draining.add_done_callback(self._drained)
+
+    def _drained(self, draining: asyncio.Task[None]) -> None:
+        self._draining.discard(draining)
+        if not draining.cancelled() and draining.exception() is not None:
+            LOG.warning("what was posted waits for the next turn: %r", draining.exception())
 
     async def _drain(self) -> None:
-        """Does what was posted, once it has the turn."""
+        """Makes the posted changes in a turn of their own."""
         async with self._turn:
             await run(self.core.turn(_nothing), self._perform)
 
     async def _within(self, work: Coroutine[Any, Any, Value], timeout: float | None) -> Value:
-        """Awaits what is the owner's, which can't wait for its own request, until its deadline."""
-        task = asyncio.ensure_future(work)
+        """Awaits a call of a device or a policy, until its deadline. Such a call can't make a request itself. With a
+        deadline it runs in a task of its own. If it is late, the task is cancelled and not awaited."""
+        if timeout is None:
+            self._inside = asyncio.current_task()
+            try:
+                return await work
+            finally:
+                self._inside = None
+        loop = asyncio.get_running_loop()
+        answer: asyncio.Future[Value] = loop.create_future()
+        task = loop.create_task(_answering(work, answer))
+        timer = loop.call_later(timeout, _expire, answer, timeout)
         self._inside = task
         try:
-            done, _ = await asyncio.wait({task}, timeout=timeout)
+            return await answer
         finally:
             self._inside = None
-            if not task.done():
-                task.cancel()
-                task.add_done_callback(_forget)
-        if not done:
-            raise DeviceTimeout(f"no answer within {timeout} seconds")
-        return task.result()
+            timer.cancel()
+            task.cancel()
 
-    # Its steps.
+    # Steps.
 
-    async def _perform(self, effect: Effect) -> Any:
-        """Does one step of the dispatcher."""
-        return await self._performers[type(effect)](self, effect)
+    def _perform(self, effect: Effect) -> Any:
+        """Performs one effect, or returns the coroutine that performs it."""
+        return self._performers[type(effect)](self, effect)
 
-    async def _tell(self, effect: Tell[Any]) -> Any:
-        return await self.session.tell(effect.event)
-
-    async def _restore(self, effect: Restore) -> None:
-        await self.session.restore(effect.snapshot)
-
-    async def _serve(self, effect: Serve) -> Any:
+    def _serve(self, effect: Serve) -> Any:
         device = self.core.devices[effect.call.service]
-        return await self._within(device.serve(effect.call), device.timeout)
+        return self._within(device.serve(effect.call), device.timeout)
 
-    async def _state(self, effect: AskState) -> Any:
+    def _state(self, effect: AskState) -> Any:
         device = self.core.devices[effect.call.service]
-        return await self._within(device.state(effect.call), device.timeout)
+        return self._within(device.state(effect.call), device.timeout)
 
-    async def _ask_back(self, effect: AskBack) -> Any:
+    def _ask_back(self, effect: AskBack) -> Any:
         assert self._back is not None
         timeout = self.core.devices[effect.service].timeout
-        return await self._within(_value(self._back, effect.service), timeout)
+        return self._within(_called(self._back, effect.service), timeout)
 
-    async def _choose(self, effect: Choose) -> Any:
+    def _choose(self, effect: Choose) -> Any:
         self._inside = asyncio.current_task()
         try:
-            return await _value(self.policy, effect.choice)
+            chosen = self.policy(effect.choice)
         finally:
             self._inside = None
+        return self._within(_value(chosen), None) if inspect.isawaitable(chosen) else chosen
 
-    async def _begin_store(self, effect: Begin) -> None:
+    def _begin_store(self, effect: Begin) -> Any:
         assert self._store is not None
-        await _in_a_thread(functools.partial(self._store.begin, effect.stored))
+        return _in_a_thread(functools.partial(self._store.begin, effect.stored))
 
-    async def _commit(self, effect: Commit) -> None:
+    def _commit(self, effect: Commit) -> Any:
         assert self._store is not None
-        if self._store.pace < AT_ONCE:
-            self._store.commit(effect.position, effect.entries)
-        else:
-            await _in_a_thread(functools.partial(self._store.commit, effect.position, effect.entries))
+        if self._store.pace >= AT_ONCE:
+            return _in_a_thread(functools.partial(self._store.commit, effect.position, effect.entries))
+        self._store.commit(effect.position, effect.entries)
+        return None
 
-    async def _notify(self, effect: Notify) -> None:
+    def _notify(self, effect: Notify) -> None:
         self._told(self._watch, effect.notice)
         if isinstance(effect.notice, Failure):
             self._told(self._on_failure, effect.notice)
 
     def _told(self, listener: Callable[[Any], None] | None, notice: Notice) -> None:
-        """Tells a listener, whose errors are logged."""
+        """Calls a listener, and logs its errors."""
         if listener is None:
             return
         try:
@@ -305,9 +311,9 @@ class Dispatcher:
         except Exception:
             LOG.exception("a listener failed at %r", notice)
 
-    _performers: Mapping[type[Effect], Callable[[Any, Any], Awaitable[Any]]] = {
-        Tell: _tell,
-        Restore: _restore,
+    _performers: Mapping[type[Effect], Callable[[Any, Any], Any]] = {
+        Tell: lambda self, effect: self.session.tell(effect.event),
+        Restore: lambda self, effect: self.session.restore(effect.snapshot),
         Serve: _serve,
         AskState: _state,
         AskBack: _ask_back,
@@ -319,7 +325,7 @@ class Dispatcher:
 
 
 def settle(future: asyncio.Future[Any], value: Any, error: BaseException | None) -> None:
-    """Gives a future its value, or its error, unless it is done."""
+    """Sets the value, or the error, of a future, unless it is done."""
     if future.done():
         return
     if error is None:
@@ -334,22 +340,39 @@ def _nothing() -> Steps[None]:
 
 
 async def _in_a_thread(write: Callable[[], None]) -> None:
-    """Waits for the disk in a thread. What was begun comes to its end, even where the task is cancelled."""
+    """Waits for the disk in a thread. A write that was begun ends, even if the task is cancelled."""
     work = asyncio.ensure_future(asyncio.get_running_loop().run_in_executor(None, write))
     try:
         await asyncio.shield(work)
     except asyncio.CancelledError:
         await asyncio.wait({work})
+        work.exception()  # Marks the error as retrieved. The entries are written later.
         raise
 
 
-async def _value(call: Callable[..., Any], *words: Any) -> Any:
+async def _value(later: Awaitable[Value]) -> Value:
+    """Awaits a future, as a coroutine."""
+    return await later
+
+
+async def _called(call: Callable[..., Any], *words: Any) -> Any:
     """The value of a call, at once or later."""
     value = call(*words)
     return await value if inspect.isawaitable(value) else value
 
 
-def _forget(task: asyncio.Task[Any]) -> None:
-    """Looks at what became of a task that nobody waits for."""
-    if not task.cancelled() and task.exception() is not None:
-        LOG.info("a device that was late ended with %r", task.exception())
+def _expire(answer: asyncio.Future[Any], timeout: float) -> None:
+    settle(answer, None, DeviceTimeout(f"no answer within {timeout} seconds"))
+
+
+async def _answering(work: Coroutine[Any, Any, Value], answer: asyncio.Future[Value]) -> None:
+    """Gives a future what becomes of a work. What comes late is logged, if it is an error."""
+    value, error = None, None
+    try:
+        value = await work
+    except BaseException as raised:
+        error = raised
+    if not answer.done():
+        settle(answer, value, error)
+    elif error is not None and not isinstance(error, asyncio.CancelledError):
+        LOG.info("a device that was late ended with %r", error)

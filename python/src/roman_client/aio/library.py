@@ -6,14 +6,18 @@ from ..library import InProcess, Library
 from ..protocol import Exchange, Start
 
 
-class Within:
-    """A session of the library, with the calls of `Streams`. None of them waits: a line takes microseconds."""
+class LibraryStreams:
+    """A session of the library, with the calls of `Streams`. A line takes microseconds, and isn't awaited."""
 
     def __init__(self, start: Start, library: Library) -> None:
         self._session = InProcess(start, library)
-        self.pid = self._session.pid
 
-    async def exchange(self, exchange: Exchange) -> list[str]:
+    @property
+    def pid(self) -> int:
+        """The process ID of this process."""
+        return self._session.pid
+
+    def exchange(self, exchange: Exchange) -> list[str]:
         """Answers a line. Raises `ProgramEnded` if the session has ended or memory runs out."""
         return self._session.exchange(exchange)
 
@@ -22,9 +26,9 @@ class Within:
         return self._session.poll()
 
     async def close(self) -> int:
-        """Ends the session, and gives the program's status."""
+        """Ends the session, and returns the program's status."""
         return self._session.close()
 
     async def stop(self) -> int:
-        """Ends the session, and gives the program's status."""
+        """Ends the session, and returns the program's status."""
         return self._session.stop()

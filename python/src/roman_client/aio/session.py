@@ -14,8 +14,11 @@ from ..library import UNLIMITED, Library
 from ..protocol import LONGEST, Conversation, Effect, Event, Exchange, Program, Start, Steps, Stop, Value
 from ..replies import Explanation, Move, Offer, Repair, Report
 from ..snapshots import Snapshot
-from .library import Within
+from .library import LibraryStreams
 from .streams import Streams, run
+
+IN_A_ROW = 100
+"""After how many calls other tasks have a turn of the loop, though each reply comes at once."""
 
 
 class Session:
@@ -40,7 +43,8 @@ class Session:
         self._timeout = timeout
         self._library = library
         self._turn: asyncio.Lock | None = None
-        self._streams: Streams | Within | None = None
+        self._calls = 0
+        self._streams: Streams | LibraryStreams | None = None
         self._first: Callable[[], Steps[Report]] = self.core.start
         self.opening: Report
         """The first report of the session."""
@@ -77,7 +81,7 @@ class Session:
     # The events.
 
     async def do(self, action: str) -> Offer:
-        """Requests an action, and says which services may serve it. The next event is `use` or `abort`."""
+        """Requests an action, and returns the services that may serve it. The next event is `use` or `abort`."""
         return await self.tell(protocol.do(action))
 
     async def use(self, service: str) -> None:
@@ -89,31 +93,31 @@ class Session:
         return await self.tell(protocol.saw(state, environment))
 
     async def abort(self) -> None:
-        """Drops the request that is open; nothing has moved."""
+        """Drops the open request. No state changes."""
         await self.tell(protocol.abort())
 
     async def freeze(self, service: str) -> Repair:
-        """A service takes no requests any more, and keeps its state."""
+        """Takes a service out of use. It keeps its state."""
         return await self.tell(protocol.freeze(service))
 
     async def thaw(self, service: str) -> Repair:
-        """A frozen service takes requests again."""
+        """Takes a frozen service into use again."""
         return await self.tell(protocol.thaw(service))
 
     async def die(self, service: str) -> Repair:
-        """A service is gone."""
+        """Removes a service for good."""
         return await self.tell(protocol.die(service))
 
     async def join(self, service: str, behaviour: str, state: str, *, loose: bool = False) -> Repair:
-        """A new service joins, in that state of a behaviour of the catalogue."""
+        """Adds a service in that state of a behaviour of the catalogue."""
         return await self.tell(protocol.join(service, behaviour, state, loose=loose))
 
     async def jump(self, service: str, state: str) -> None:
-        """A service is in that state now, whatever its transitions say."""
+        """Sets the state of a service, whatever its transitions are."""
         await self.tell(protocol.jump(service, state))
 
     async def jumpenv(self, environment: str) -> None:
-        """The environment is in that state now, whatever its transitions say."""
+        """Sets the state of the environment, whatever its transitions are."""
         await self.tell(protocol.jumpenv(environment))
 
     async def report(self) -> Report:
@@ -121,20 +125,20 @@ class Session:
         return await self.tell(protocol.report())
 
     async def explain(self) -> Explanation:
-        """Why the present pair isn't related. Refused as `Related` where it is."""
+        """Why the present pair isn't related. Raises `Related` if it is."""
         return await self.tell(protocol.explain())
 
     async def quit(self) -> int:
-        """Ends the session, and gives the program's status."""
+        """Ends the session, and returns the program's status."""
         await self.tell(protocol.quit())
         return await self.close()
 
     async def tell(self, event: Event[Value]) -> Value:
-        """Sends the line of any event of `roman_client.protocol`, and gives the value of its reply."""
+        """Sends the line of any event of `roman_client.protocol`, and returns the value of its reply."""
         return await self.run(self.core.tell(event))
 
     async def restore(self, snapshot: Snapshot) -> Report:
-        """Goes on from a snapshot, in a new program, and gives the report of the states there."""
+        """Goes on from a snapshot in a new program, and returns the report of its states."""
         return await self.run(self.core.resume(snapshot))
 
     async def snapshot(self) -> Snapshot:
@@ -146,26 +150,26 @@ class Session:
 
     @property
     def changes(self) -> int:
-        """How many changes were made: freezes, thaws, deaths, joins and jumps."""
+        """The number of changes: freezes, thaws, deaths, joins and jumps."""
         return self.core.changes
 
     @property
     def status(self) -> int | None:
-        """The program's status, or None where it is still running."""
+        """The program's status, or None while it runs."""
         return self._running().poll()
 
     @property
     def pid(self) -> int:
-        """The number of the program's process."""
+        """The process ID of the program."""
         return self._running().pid
 
     @property
     def room(self) -> int:
-        """How many bytes the present program still takes."""
+        """The number of bytes that the present program still takes."""
         return self.core.longest - self.core.sent
 
     async def close(self) -> int:
-        """Closes the input, ends the program where it doesn't end by itself, and gives its status."""
+        """Closes the input, ends the program if it doesn't end by itself, and returns its status."""
         return await self._running().close()
 
     async def __aenter__(self) -> Session:
@@ -182,30 +186,35 @@ class Session:
     # Its steps.
 
     async def run(self, steps: Steps[Value]) -> Value:
-        """Does the steps of the session."""
+        """Carries out the steps of the session."""
         if self._turn is None:
             raise NotBegun("the session wasn't begun")
+        self._calls += 1
+        if self._calls % IN_A_ROW == 0:
+            await asyncio.sleep(0)
         async with self._turn:
-            return await run(steps, self.perform)
+            return await run(steps, self._perform)
 
-    async def perform(self, effect: Effect) -> Any:
-        """Does one step of the session."""
+    def _perform(self, effect: Effect) -> Any:
+        """Does one step of the session, or gives the coroutine that does it."""
         if isinstance(effect, Exchange):
-            return await self._running().exchange(effect)
+            return self._running().exchange(effect)
         if isinstance(effect, Start):
-            before = self._streams
-            self._streams = await self._started(effect)
-            if before is not None:
-                await before.close()
-            return None
+            return self._start(effect)
         if isinstance(effect, Stop):
-            return await self._running().stop()
+            return self._running().stop()
         raise TypeError(f"{effect!r} is no step of a session")
 
-    async def _started(self, start: Start) -> Streams | Within:
-        return Within(start, self._library) if self._library else await Streams.start(start, self._timeout)
+    async def _start(self, start: Start) -> None:
+        before = self._streams
+        if self._library:
+            self._streams = LibraryStreams(start, self._library)
+        else:
+            self._streams = await Streams.start(start, self._timeout)
+        if before is not None:
+            await before.close()
 
-    def _running(self) -> Streams | Within:
+    def _running(self) -> Streams | LibraryStreams:
         if self._streams is None:
             raise NotBegun("the session wasn't begun")
         return self._streams

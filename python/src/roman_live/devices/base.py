@@ -1,4 +1,4 @@
-"""What all ways to reach a device share."""
+"""The base class of all ways to reach a device."""
 
 from __future__ import annotations
 
@@ -7,6 +7,9 @@ from dataclasses import dataclass
 from typing import Any, Protocol
 
 from roman_client import Call, DeviceFailed
+
+DEADLINE = 10.0
+"""How many seconds a device may take, unless the home file or the device gives another number."""
 
 LONGEST_ANSWER = 65_536
 """The most bytes that a device may answer."""
@@ -17,8 +20,8 @@ STATE_WORD = "?"
 
 @dataclass(frozen=True)
 class Answer:
-    """What a device says of itself: its state, and that of the environment where it knows it. `done` is set
-    where it was asked about a call, and knows whether that was done."""
+    """The answer of a device: its state, and that of the environment if it knows it. `done` is set
+    if the device was asked about a call, and knows whether it did it."""
 
     state: str
     environment: str | None = None
@@ -26,31 +29,32 @@ class Answer:
 
 
 class Listener(Protocol):
-    """Who is told what a device says unasked."""
+    """Receives what a device reports unasked."""
 
     def moved(self, service: str, answer: Answer) -> None:
-        """A device said where it is now."""
+        """A device reported its state."""
 
     def answered(self, service: str) -> None:
         """The answer to what is under way has come; what the device says next is newer."""
 
     def gone(self, service: str) -> None:
-        """A device is gone, until it says something."""
+        """A device is gone, until it reports again."""
 
     def late(self, service: str, text: str) -> None:
-        """An answer came that nobody waits for."""
+        """An answer came too late."""
 
 
 class Reach:
     """How a service is reached. `by_broker` says that what it says unasked is lost while the broker is gone. A device
     that brings its own deadline, or may be repeated, or is doubtful if it is late, says so as `roman_client.Device`
-    does."""
+    does. One that `is_quick` has no deadline."""
 
     reached = ""
     by_broker = False
     timeout: float | None = None
     repeatable = False
     late_is_doubt = False
+    is_quick = False
 
     def __init__(self, service: str, listener: Listener) -> None:
         self.service = service
@@ -61,13 +65,13 @@ class Reach:
         return None
 
     async def open(self) -> None:
-        """Makes it ready to be asked."""
+        """Prepares for calls."""
 
     async def close(self) -> None:
-        """Lets go of what it holds."""
+        """Releases all resources."""
 
     async def ask(self, number: int, call: Call) -> Answer:
-        """Has the action of a call carried out. Raises an exception if the device can't, and NoRoom if it wasn't asked
+        """Has the action of a call carried out. Raises an exception if the device can't, and NoSpace if it wasn't asked
         for want of files. It may be cancelled at any time; then what is answered later is taken for nothing."""
         raise NotImplementedError
 
@@ -78,7 +82,7 @@ class Reach:
 
 
 def answer_of(value: Any) -> Answer:
-    """The answer that this JSON is. Raises DeviceFailed where it is none."""
+    """The answer in this JSON. Raises DeviceFailed if it isn't one."""
     if not isinstance(value, dict):
         raise DeviceFailed(f"answered {short(value)}, which is no object")
     if isinstance(value.get("error"), str):
@@ -92,7 +96,7 @@ def answer_of(value: Any) -> Answer:
 
 
 def json_of(data: bytes) -> Any:
-    """The JSON that these bytes are. Raises DeviceFailed where they are none."""
+    """The value of these bytes of JSON. Raises DeviceFailed if they aren't JSON."""
     try:
         return json.loads(data)
     except (ValueError, RecursionError):
@@ -100,6 +104,6 @@ def json_of(data: bytes) -> Any:
 
 
 def short(value: Any) -> str:
-    """A value in a few letters."""
+    """A value as a short text."""
     text = value.decode(errors="replace") if isinstance(value, bytes) else repr(value)
     return text if len(text) <= 80 else f"{text[:77]}..."

@@ -1,4 +1,4 @@
-"""Devices that are commands: one for each call, or one that is kept and reads lines."""
+"""Devices that are commands: one for each call, or one that keeps running and reads lines."""
 
 from __future__ import annotations
 
@@ -12,23 +12,24 @@ from collections.abc import Iterator
 from typing import Any
 
 from roman_client import Call, DeviceFailed, DeviceLost
+from roman_client.aio.streams import abandon
 
 from ..config import CommandReach
-from ..errors import check_want
+from ..errors import check_file_limit
 from ..processes import Processes, lock, unlock
 from .base import LONGEST_ANSWER, STATE_WORD, Answer, Listener, Reach, short
 
 REST = 0.5
-"""How many seconds are waited for the rest of what a command wrote that has ended. What it left running may keep
-its output open."""
+"""How many seconds to wait for the rest of the output of a command that has ended. A process that it left running may
+keep the output open."""
 
 STILL = "is still at work on an earlier call, and this home may not end it: it runs for another user"
-"""What is said of a command that was given up and runs on, as one that is called by sudo."""
+"""The error if a command that was given up still runs, such as one that sudo runs."""
 
 
 class Command(Reach):
-    """A device that is a command with the action as its last word. It writes one line, its state and that
-    of the environment, and ends with status 0. With `?` for the action it tells its present state."""
+    """A device that is a command with the action as its last word. It writes one line with its state and that of the
+    environment, and ends with status 0. With `?` as the action it reports its present state."""
 
     reached = "command"
 
@@ -62,11 +63,11 @@ class Command(Reach):
             self._before = None
 
     async def _run(self, word: str, number: int | None, holds: tuple[int, ...]) -> Answer:
-        """Runs the command once. What is still running when this is cancelled is ended."""
+        """Runs the command once. Ends its processes that still run afterwards, or when this is cancelled."""
         loop = asyncio.get_running_loop()
         with _naming(self._entry):
             transport, written = await loop.subprocess_exec(
-                Written,
+                CommandOutput,
                 *self._entry.command,
                 word,
                 stdin=asyncio.subprocess.DEVNULL,
@@ -77,7 +78,7 @@ class Command(Reach):
             await asyncio.wait({written.closed}, timeout=REST)
         finally:
             ends = transport.get_returncode() is not None or _kill(transport.get_pid())
-            with contextlib.suppress(PermissionError):  # It would end the command, too.
+            with contextlib.suppress(PermissionError):  # Closing would end the command, too.
                 transport.close()
             if ends:
                 await asyncio.wait({written.closed})
@@ -90,9 +91,9 @@ class Command(Reach):
         return _answer(bytes(written.output))
 
 
-class Written(asyncio.SubprocessProtocol):
-    """What a command writes that runs once: its `output`, and the last of its `errors`. `ended` is done when it
-    has ended, or has written too much, and `closed` when nobody can write any more."""
+class CommandOutput(asyncio.SubprocessProtocol):
+    """The `output` of a command that runs once, and the last bytes of its `errors`. `ended` is done when the command
+    has ended or has written too much, and `closed` when no process can write any more."""
 
     def __init__(self) -> None:
         loop = asyncio.get_running_loop()
@@ -117,14 +118,14 @@ class Written(asyncio.SubprocessProtocol):
         self.closed.set_result(None)
 
 
-class KeptCommand(Reach):
-    """A command that is kept, reads a line for each call, and writes one with its state and that of the
-    environment. To `?` it tells its present state.
+class LineCommand(Reach):
+    """A command that keeps running. It reads a line for each call, and writes one with its state and that of the
+    environment. It answers `?` with its present state.
 
-    Where it is numbered each line begins with the number of a call, and the answer to it does, so that a late
-    one is known by that; a line that begins with `-` says where it is by itself. Where it isn't, it is ended
-    when it is late, or writes what nobody asked for, so that no line is taken for another call's. A command
-    that doesn't tell its state in time is ended, too. It is started again when it is asked next.
+    If it is numbered, each line begins with the number of a call, and so does the answer. So a late answer is
+    recognised. A line that begins with `-` reports a move by itself. A command without numbers is ended if it is late
+    or writes an unexpected line, since this line could be taken for the answer to another call. A command that doesn't
+    report its state in time is ended, too. It is started again at the next call.
     """
 
     reached = "command"
@@ -148,7 +149,7 @@ class KeptCommand(Reach):
         return _hindrance(self._entry)
 
     def _close_file(self) -> None:
-        """Closes the file of the locks of a command that has ended."""
+        """Closes the file with the locks of a command that has ended."""
         if self._file >= 0:
             os.close(self._file)
             self._file = -1
@@ -165,18 +166,18 @@ class KeptCommand(Reach):
     async def ask(self, number: int, call: Call) -> Answer:
         async with self._turn:
             process = await self._running()
-            lock(self._file, number)  # Until it answers. One that is late holds it until it ends.
+            lock(self._file, number)  # Until it answers. A late command holds the lock until it ends.
             answer = await self._exchange(process, number, call.action)
             unlock(self._file, number)
             return answer
 
     async def tell(self, number: int | None, call: Call | None = None) -> Answer | None:
         async with self._turn:
-            self._last -= 1  # Numbers below 0 are those of no call.
+            self._last -= 1  # No call has a number below 0.
             return await self._exchange(await self._running(), self._last, STATE_WORD)
 
     async def _exchange(self, process: asyncio.subprocess.Process, number: int, word: str) -> Answer:
-        """Writes a line, and waits for the one that answers it."""
+        """Writes a line, and waits for its answer."""
         answer: asyncio.Future[Answer] = asyncio.get_running_loop().create_future()
         self._waiting = number, answer
         try:
@@ -194,9 +195,11 @@ class KeptCommand(Reach):
             raise
         finally:
             self._waiting = None
+            if answer.done() and not answer.cancelled():
+                answer.exception()  # Marks the error as retrieved, if the command ended before it had read the line.
 
     async def _running(self) -> asyncio.subprocess.Process:
-        """The command, which is started where it doesn't run."""
+        """Returns the command, and starts it if it doesn't run."""
         if self._left is not None and self._left.returncode is None:
             raise DeviceFailed(STILL)
         if self._before is not None:
@@ -212,8 +215,8 @@ class KeptCommand(Reach):
         return self._process
 
     async def _listen(self, process: asyncio.subprocess.Process) -> None:
-        """Hears what the command writes, until it ends, or writes a line of which it isn't known whose it is."""
-        assert process.stdout is not None
+        """Reads the lines of the command, until it ends or writes a line that belongs to no call."""
+        assert process.stdin is not None and process.stdout is not None
         try:
             while True:
                 line = await process.stdout.readline()
@@ -226,9 +229,11 @@ class KeptCommand(Reach):
             await self._fail(process, error)
         except ValueError:
             await self._fail(process, DeviceFailed(f"wrote a line of more than {LONGEST_ANSWER} bytes"))
+        finally:
+            await abandon(process.stdin)
 
     def _hear(self, line: bytes) -> None:
-        """A line. Raises DeviceFailed where it isn't known whose it is."""
+        """Handles a line. Raises DeviceFailed if it belongs to no call."""
         if self._entry.numbered:
             self._hear_numbered(line)
             return
@@ -256,14 +261,14 @@ class KeptCommand(Reach):
         self.listener.answered(self.service)
 
     def _awaited(self, number: int | None) -> asyncio.Future[Answer] | None:
-        """The answer that is waited for, unless it is that to another number."""
+        """The answer that `_exchange` waits for, unless it is that to another number."""
         if self._waiting is None or self._waiting[1].done():
             return None
         return self._waiting[1] if number in (None, self._waiting[0]) else None
 
     async def _fail(self, process: asyncio.subprocess.Process, error: DeviceFailed) -> None:
-        """Ends the command, and says why to the one who waits for an answer; where nobody does, as what came
-        late."""
+        """Ends the command, and passes the error to the call that waits. If no call waits, the error is reported as a
+        late answer."""
         if process is not self._process:
             return
         answer = self._awaited(None)
@@ -274,7 +279,7 @@ class KeptCommand(Reach):
         await self._drop(process)
 
     async def _drop(self, process: asyncio.subprocess.Process) -> None:
-        """Ends the command. What it wrote is heard no more."""
+        """Ends the command. Its further output is ignored."""
         if process is self._process:
             self._process = None
         if process.returncode is not None:
@@ -283,20 +288,20 @@ class KeptCommand(Reach):
             await process.wait()
         else:
             assert process.stdin is not None
-            process.stdin.close()  # It ends by that, where it does what it should.
+            process.stdin.close()  # A well-behaved command ends at the end of its input.
             self._left = process
 
 
 def _around(entry: CommandReach, number: int | None, holds: tuple[int, ...]) -> dict[str, Any]:
-    """What a command runs in: a group of its own, beside the home file, with these files open. The number of a
-    call is in its environment."""
+    """The surroundings of a command: a group of its own, the folder of the home file, and these files open. The number
+    of its call is in its environment."""
     known = {} if number is None else {"ROMAN_CALL": str(number)}
     env = {**os.environ, **known}
     return {"cwd": entry.folder, "env": env, "start_new_session": True, "pass_fds": holds}
 
 
 def _hindrance(entry: CommandReach) -> str | None:
-    """Why a command can't be run, as far as that is known without running it."""
+    """Why a command can't be run, as far as this can be checked without running it."""
     word = entry.command[0]
     path = str(entry.folder / word) if "/" in word else word
     if shutil.which(path) is not None:
@@ -308,16 +313,16 @@ def _hindrance(entry: CommandReach) -> str | None:
 
 @contextlib.contextmanager
 def _naming(entry: CommandReach) -> Iterator[None]:
-    """Raises DeviceFailed, with the name of a command, if it can't be started; and NoRoom for want of files."""
+    """Raises DeviceFailed with the name of a command if it can't be started, and NoSpace at the limit of open files."""
     try:
         yield
     except OSError as error:
-        check_want(error)
+        check_file_limit(error)
         raise DeviceFailed(f"{entry.command[0]} can't be started: {error.strerror}") from None
 
 
 async def _start(entry: CommandReach, holds: tuple[int, ...]) -> asyncio.subprocess.Process:
-    """Starts a command that is kept."""
+    """Starts a command that keeps running."""
     with _naming(entry):
         return await asyncio.create_subprocess_exec(
             *entry.command,
@@ -329,13 +334,13 @@ async def _start(entry: CommandReach, holds: tuple[int, ...]) -> asyncio.subproc
 
 
 def _check_ended(processes: Processes, number: int) -> None:
-    """Raises DeviceFailed while the command of a call of an earlier run is at work."""
+    """Raises DeviceFailed if the command of an earlier run's call is still at work."""
     if processes.is_at_work(number):
         raise DeviceFailed("is still at work on a call of an earlier run of this home")
 
 
 def _kill(group: int) -> bool:
-    """Ends all processes of a group. False where none of them may be ended from here."""
+    """Ends all processes of a group. Returns False if the home may end none of them."""
     try:
         with contextlib.suppress(ProcessLookupError):
             os.killpg(group, signal.SIGKILL)
@@ -345,7 +350,7 @@ def _kill(group: int) -> bool:
 
 
 def _answer(data: bytes) -> Answer:
-    """The answer in a line: a state, and that of the environment where it is known."""
+    """The answer in a line: a state, and that of the environment if it is known."""
     lines = data.decode(errors="replace").splitlines()
     words = lines[0].split() if lines else []
     if len(lines) != 1 or not 1 <= len(words) <= 2:

@@ -5,8 +5,8 @@ from __future__ import annotations
 from ..config import CommandReach, DeviceEntry, HttpReach, MqttReach
 from ..mqtt_api import Connection
 from ..processes import Processes
-from .base import Listener, Reach
-from .command import Command, KeptCommand
+from .base import DEADLINE, Listener, Reach
+from .command import Command, LineCommand
 from .http import Http
 from .mapped import MappedReach, Outcomes
 from .mapped_http import MappedHttp
@@ -29,27 +29,32 @@ def make_reach(
     command an earlier run may have left at work. `outcomes` says what the document allows for a call."""
     reach = entry.reach
     if isinstance(reach, Map):
-        return make_mapped(service, reach, listener, broker, outcomes)
+        return make_mapped(service, reach, listener, broker, outcomes, entry.seconds or DEADLINE)
     if isinstance(reach, MqttReach):
         assert broker is not None
         return Mqtt(service, listener, reach, broker)
     if isinstance(reach, HttpReach):
         return Http(service, listener, reach)
     if isinstance(reach, CommandReach):
-        return (KeptCommand if reach.lines else Command)(service, listener, reach, processes, before)
+        return (LineCommand if reach.lines else Command)(service, listener, reach, processes, before)
     return PythonDevice(service, listener, reach)
 
 
 def make_mapped(
-    service: str, found: Map, listener: Listener, broker: Connection | None, outcomes: Outcomes
+    service: str,
+    found: Map,
+    listener: Listener,
+    broker: Connection | None,
+    outcomes: Outcomes,
+    seconds: float = DEADLINE,
 ) -> MappedReach:
-    """The reach of a service, or of the environment, by a map."""
+    """The reach of a service, or of the environment, by a map. A device that is polled must answer within `seconds`."""
     if isinstance(found, MqttMap):
         assert broker is not None
         return MappedMqtt(service, listener, found, outcomes, broker)
     if isinstance(found, HttpMap):
-        return MappedHttp(service, listener, found, outcomes)
+        return MappedHttp(service, listener, found, outcomes, seconds)
     assert isinstance(found, ModbusMap)
     from .modbus import Modbus  # Its client is needed only by those who have such machines.
 
-    return Modbus(service, listener, found, outcomes)
+    return Modbus(service, listener, found, outcomes, seconds)

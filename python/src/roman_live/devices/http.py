@@ -12,7 +12,7 @@ from yarl import URL
 from roman_client import Call, DeviceFailed, DeviceLost
 
 from ..config import HttpReach
-from ..errors import check_want, unreached
+from ..errors import check_file_limit, connection_error
 from .base import LONGEST_ANSWER, Answer, Listener, Reach, answer_of, json_of, short
 
 
@@ -24,7 +24,7 @@ class Client:
         self._client: aiohttp.ClientSession | None = None
 
     async def open(self) -> None:
-        """Makes it ready to send."""
+        """Prepares for requests."""
         # The dispatcher has the deadline; redirects, proxies and cookies aren't for devices.
         self._client = aiohttp.ClientSession(
             connector=aiohttp.TCPConnector(force_close=True),
@@ -33,7 +33,7 @@ class Client:
         )
 
     async def close(self) -> None:
-        """Lets go of its connections."""
+        """Closes its connections."""
         if self._client is not None:
             await self._client.close()
 
@@ -52,8 +52,8 @@ class Client:
                 data = await _read(response)
                 status = response.status
         except aiohttp.ClientConnectorError as error:
-            check_want(error)
-            raise DeviceFailed(f"{shown}: {unreached(error)}") from None
+            check_file_limit(error)
+            raise DeviceFailed(f"{shown}: {connection_error(error)}") from None
         except aiohttp.ClientError as error:
             raise DeviceLost(f"{shown}: {error or type(error).__name__}") from None
         if not 200 <= status < 300:

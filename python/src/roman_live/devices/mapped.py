@@ -1,7 +1,7 @@
-"""What all mapped devices share: which of their words answer a call, and which are moves by hand.
+"""The common part of mapped devices: which of their messages answer a call, and which report moves by hand.
 
-The messages of such a device carry no number. So the answer to a call is the first state after the command that the
-document allows as its outcome. Any other word while the call is open is ignored.
+The messages of such a device have no number. So the answer to a call is the first state after the command that the
+document allows as its outcome. All other messages while the call is open are ignored.
 """
 
 from __future__ import annotations
@@ -14,6 +14,7 @@ from typing import NamedTuple
 from roman_client import Call, DeviceFailed
 from roman_client.devices import Outcome
 
+from ..errors import NoSpace
 from .base import Answer, Listener, Reach
 from .maps import Action, Map, Reading
 
@@ -21,18 +22,18 @@ Outcomes = Callable[[Call], Collection[Outcome]]
 """The outcomes that the document allows for a call."""
 
 FIRST_LOOK, LONGEST_LOOK = 0.05, 1.0
-"""After how many seconds a device that doesn't speak by itself is asked whether it has acted. Each pause is twice
-the one before, up to the longest."""
+"""The seconds after which a device that reports nothing by itself is first asked whether it has acted, and the longest
+pause after that. Each pause is twice the one before."""
 
 
 class Expected(NamedTuple):
-    """A call that waits for its answer, and the outcomes that are one."""
+    """A call that waits for its answer, and the outcomes that count as its answer."""
 
     outcomes: Collection[Outcome]
     answer: asyncio.Future[Answer]
 
     def fits(self, answer: Answer) -> bool:
-        """Whether this is one of the outcomes."""
+        """Whether an answer is one of the outcomes."""
         return any(
             answer.state == state and answer.environment in (None, environment) for state, environment in self.outcomes
         )
@@ -47,14 +48,14 @@ class MappedReach(Reach):
         self._outcomes = outcomes
 
     def action(self, call: Call) -> Action:
-        """What the device is told for a call."""
+        """The command to the device for a call. Raises DeviceFailed if the map has none."""
         action = self._map.actions.get(call.action)
         if action is None:
             raise DeviceFailed(f"has no action {call.action} in the home file")
         return action
 
     def read(self, message: str) -> Reading | None:
-        """What a message says."""
+        """The reading of a message."""
         return self._map.states.read(message)
 
 
@@ -68,26 +69,29 @@ def answer_in(reading: Reading | None) -> Answer:
 
 
 class PolledReach(MappedReach):
-    """A mapped device that says where it is only if it is asked. `poll` is after how many seconds it is asked
-    while no call is open: what it says then is a move by hand."""
+    """A mapped device that reports its state only if it is asked. While no call is open, it is asked each `poll`
+    seconds, and a new state is a move by hand. It is gone if it doesn't answer within `seconds`."""
 
-    def __init__(self, service: str, listener: Listener, found: Map, outcomes: Outcomes, poll: float) -> None:
+    def __init__(
+        self, service: str, listener: Listener, found: Map, outcomes: Outcomes, poll: float, seconds: float
+    ) -> None:
         super().__init__(service, listener, found, outcomes)
         self._poll = poll
+        self._seconds = seconds
         self._polling: asyncio.Task[None] | None = None
         self._calls = 0
         self._open = False
 
     async def fetch(self) -> str:
-        """The message in which the device says its state."""
+        """Asks the device for its state, and returns its message."""
         raise NotImplementedError
 
     async def send(self, number: int, call: Call) -> str:
-        """Tells the device to act, and gives its reply."""
+        """Sends a command to the device, and returns its reply."""
         raise NotImplementedError
 
     tells = True
-    """Whether the device says its state."""
+    """Whether the device reports its state."""
 
     async def open(self) -> None:
         if self.tells:
@@ -112,10 +116,11 @@ class PolledReach(MappedReach):
             self._open = False
 
     async def _after(self, expected: Expected) -> Answer:
-        """The first state that is an outcome. A device that can't be read may be starting again."""
+        """Waits for the first state that is an outcome. Errors are ignored, since the device may be restarting. So is
+        a lack of files, since the device has received the command."""
         pause = FIRST_LOOK
         while True:
-            with contextlib.suppress(DeviceFailed):
+            with contextlib.suppress(DeviceFailed, NoSpace):
                 answer = answer_in(self.read(await self.fetch()))
                 if expected.fits(answer):
                     return answer
@@ -126,7 +131,7 @@ class PolledReach(MappedReach):
         return answer_in(self.read(await self.fetch())) if self.tells else None
 
     async def _look(self) -> None:
-        """Asks the device again and again. What it says counts for nothing if a call was made meanwhile."""
+        """Polls the device. An answer is dropped if a call was made meanwhile."""
         there = True
         while True:
             await asyncio.sleep(self._poll)
@@ -134,8 +139,11 @@ class PolledReach(MappedReach):
             if self._open:
                 continue
             try:
-                answer = answer_in(self.read(await self.fetch()))
-            except DeviceFailed:
+                async with asyncio.timeout(self._seconds):
+                    answer = answer_in(self.read(await self.fetch()))
+            except NoSpace:
+                continue  # It wasn't asked.
+            except (DeviceFailed, TimeoutError):
                 if there and calls == self._calls:
                     self.listener.gone(self.service)
                 there = False

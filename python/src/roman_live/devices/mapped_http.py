@@ -14,12 +14,12 @@ from .maps import HttpAction, HttpMap
 
 
 class MappedHttp(PolledReach):
-    """A device that answers requests."""
+    """A device with an HTTP API."""
 
     reached = "http"
 
-    def __init__(self, service: str, listener: Listener, found: HttpMap, outcomes: Outcomes) -> None:
-        super().__init__(service, listener, found, outcomes, found.poll)
+    def __init__(self, service: str, listener: Listener, found: HttpMap, outcomes: Outcomes, seconds: float) -> None:
+        super().__init__(service, listener, found, outcomes, found.poll, seconds)
         self._state = found.state
         self.tells = found.state is not None
         self._client = Client()
@@ -42,7 +42,7 @@ class MappedHttp(PolledReach):
         return await self._request(action, {"action": call.action, "id": number})
 
     async def _request(self, action: HttpAction, values: dict[str, object]) -> str:
-        """Sends a request, and gives the text of its answer."""
+        """Sends a request, and returns the text of its answer."""
         headers, body = dict(action.headers), None
         try:
             if action.json is not None:

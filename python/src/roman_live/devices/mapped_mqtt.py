@@ -15,7 +15,7 @@ from .maps import MqttAction, MqttMap, Reading
 
 
 class MappedMqtt(MappedReach):
-    """A device that says its state on a topic whenever it changes, and is told to act on others."""
+    """A device that publishes its state on a topic after each change, and receives commands on other topics."""
 
     reached = "mqtt"
     by_broker = True
@@ -54,7 +54,7 @@ class MappedMqtt(MappedReach):
                 return Answer(action.state)
             answer = await expected.answer
         except BaseException:
-            self._last = None  # It may be moving; only what it says from now on counts.
+            self._last = None  # It may be moving, so only later messages count.
             raise
         finally:
             self._expected = None
@@ -81,7 +81,7 @@ class MappedMqtt(MappedReach):
             raise DeviceFailed("isn't available")
 
     def _hear(self, payload: bytes, retained: bool) -> None:
-        """A message on the topic of the state. A retained one is older than a command that waits."""
+        """Handles a message on the topic of the state. A retained one is older than an open call, and no answer."""
         if len(payload) > LONGEST_ANSWER:
             self.listener.late(self.service, f"says more than {LONGEST_ANSWER} bytes")
             return
@@ -117,7 +117,7 @@ class MappedMqtt(MappedReach):
 
 
 def _settle(waiting: Iterable[asyncio.Future[Answer]], value: Answer | DeviceFailed) -> None:
-    """Gives a value, or an error, to all who wait for it."""
+    """Sets the value, or the error, of all futures that wait for it."""
     for each in waiting:
         if each.done():
             continue

@@ -1,6 +1,6 @@
-"""Maps: how a device of any make says its state and is told to act, in a table of the home file.
+"""Maps: tables of the home file that translate the messages of a device of any make.
 
-The keys are those of Home Assistant's MQTT integration, as far as there is one: `state_topic`, `value_template`,
+The keys are those of Home Assistant's MQTT integration, if it has one for the purpose: `state_topic`, `value_template`,
 `availability_topic`, `payload_available`.
 """
 
@@ -15,19 +15,19 @@ from urllib.parse import urljoin
 from roman_client import Document
 from roman_client.documents import Machine
 
-from ..tables import HomeFileError, Table, Unusable, one_of, seconds, secret, text, topic, url, whole
+from ..tables import HomeFileError, Table, UnusableValue, one_of, seconds, secret, text, topic, url, whole
 from ..templates import Template, TemplateFailed, command_template, json_template, message_template, message_values
 
 POLL = 10.0
-"""After how many seconds a device that doesn't speak by itself is asked where it is."""
+"""The default number of seconds between two questions to a device that reports nothing by itself."""
 
 Headers = Mapping[str, str]
 
 
 @dataclass(frozen=True)
 class Reading:
-    """What a message says: the value of its template, and the states that this stands for. `state` is None if the
-    map has no state for the value."""
+    """The content of a message: the value of its template, and the states that the value stands for. `state` is None
+    if the map has no state for the value."""
 
     said: str
     state: str | None
@@ -35,14 +35,14 @@ class Reading:
 
     @property
     def unknown(self) -> str:
-        """What is wrong with a value that stands for no state."""
+        """The error for a value that stands for no state."""
         return f"says {self.said!r}, which is in none of its states"
 
 
 @dataclass(frozen=True)
 class States:
-    """Which states a device's messages stand for: the value of a template, and names for it; the same for the
-    environment if the device knows it."""
+    """The states that a device's messages stand for: a template, and the states by its values. `environment` and
+    `environments` are the same for the environment, if the device reports it."""
 
     template: Template | None = None
     names: Mapping[str, str] | None = None
@@ -50,7 +50,7 @@ class States:
     environments: Mapping[str, str] | None = None
 
     def read(self, message: str) -> Reading | None:
-        """What a message says. None if its template gives nothing: then it is about something else."""
+        """The reading of a message. None if its template has no value: the message is about something else."""
         values = message_values(message)
         said = message.strip() if self.template is None else _value(self.template, values)
         if not said:
@@ -70,7 +70,7 @@ def _value(template: Template, values: Mapping[str, Any]) -> str:
 
 @dataclass(frozen=True)
 class Action:
-    """What a device is told. `state` is the state after it, for a device that says none."""
+    """A command to a device. `state` is the state after it, if the device doesn't report one."""
 
     state: str | None = field(default=None, kw_only=True)
 
@@ -105,7 +105,7 @@ class ModbusPlace:
 
 @dataclass(frozen=True)
 class ModbusAction(Action):
-    """A value that is written."""
+    """A value to write."""
 
     place: ModbusPlace
     value: bool | int
@@ -113,7 +113,7 @@ class ModbusAction(Action):
 
 @dataclass(frozen=True)
 class Availability:
-    """The topic on which a device, or its last will, says whether it is there."""
+    """The topic on which a device, or its last will, reports whether it is available."""
 
     topic: str
     template: Template | None
@@ -121,14 +121,14 @@ class Availability:
     not_available: str
 
     def read(self, message: str) -> bool | None:
-        """Whether the device is there; None for a message that says neither."""
+        """Whether the device is available. None if the message states neither."""
         said = message.strip() if self.template is None else _value(self.template, message_values(message))
         return {self.available: True, self.not_available: False}.get(said)
 
 
 @dataclass(frozen=True)
 class Map:
-    """What all maps have."""
+    """The common part of all maps."""
 
     states: States
     actions: Mapping[str, Action]
@@ -136,7 +136,7 @@ class Map:
 
 @dataclass(frozen=True)
 class MqttMap(Map):
-    """A device behind a broker. Asked with `ask_payload` on `ask_topic` it says its state."""
+    """A device behind a broker. It answers `ask_payload` on `ask_topic` with its state."""
 
     actions: Mapping[str, MqttAction]
     state_topic: str | None
@@ -177,12 +177,12 @@ class ModbusMap(Map):
 
 
 def is_map(table: Table) -> bool:
-    """Whether a table is that of a map: then it has one of the keys that only maps have."""
+    """Whether a table has one of the keys that only maps have."""
     return any(table.has(key) for key in ("state_topic", "state_url", "actions"))
 
 
 def read_mqtt(table: Table, folder: Path, acts: bool = True) -> MqttMap:
-    """The map of a device behind a broker; of one that only says a state unless it `acts`."""
+    """The map of a device behind a broker. If `acts` is false, it only reports a state, as a sensor does."""
     states = _states(table)
     command = table.take("command_topic", topic, None) if acts else None
     state_topic = table.take("state_topic", topic, None)
@@ -199,7 +199,7 @@ def read_mqtt(table: Table, folder: Path, acts: bool = True) -> MqttMap:
 def _mqtt_action(table: Table, command: str | None, state_topic: str | None) -> MqttAction:
     to = table.take("topic", topic, command)
     if to is None and table.is_wrong:
-        raise Unusable()
+        raise UnusableValue()
     if to is None:
         raise table.wrong("topic", 'is missing, as in topic = "cmnd/plug/POWER"')
     if to == state_topic:
@@ -222,7 +222,7 @@ def _availability(table: Table) -> Availability | None:
 
 
 def read_http(table: Table, folder: Path, acts: bool = True) -> HttpMap:
-    """The map of a device with an HTTP API; of one that only says a state unless it `acts`."""
+    """The map of a device with an HTTP API. If `acts` is false, it only reports a state, as a sensor does."""
     states, headers = _states(table), _headers(table, folder)
     state_url = table.take("state_url", url, None)
     state = None if state_url is None else HttpAction("GET", state_url, headers)
@@ -251,7 +251,7 @@ def _http_action(table: Table, base: str | None, headers: Headers, folder: Path)
 
 
 def _headers(table: Table, folder: Path) -> Headers:
-    """Headers, whose values are texts, or stand in files."""
+    """Headers. Each value is a text, or is read from a file."""
     inner = table.table("headers")
     headers = {}
     for name, value in inner.items() if inner is not None else ():
@@ -276,7 +276,7 @@ numbers. Coils and registers can be written."""
 
 
 def read_modbus(table: Table, folder: Path, acts: bool = True) -> ModbusMap:
-    """The map of a machine behind Modbus; of one that only says a state unless it `acts`."""
+    """The map of a machine behind Modbus. If `acts` is false, it only reports a state, as a sensor does."""
     states = _states(table)
     host = table.need("host", text, 'host = "192.168.1.30"')
     port, unit = table.take("port", whole(1, 65535), 502), table.take("unit", whole(0, 255), 1)
@@ -294,7 +294,7 @@ def _place(table: Table, kinds: tuple[str, ...]) -> ModbusPlace:
     given = {kind: table.take(kind, whole(0, 65535), None) for kind in kinds}
     places = [(kind, address) for kind, address in given.items() if address is not None]
     if table.is_wrong:
-        raise Unusable()
+        raise UnusableValue()
     if len(places) != 1:
         raise HomeFileError(f"{table.name} has to name one of {', '.join(kinds)}, as in {{coil = 0}}")
     count = table.take("count", whole(1, 100), 1) if kinds == PLACES else 1
@@ -345,7 +345,7 @@ def _names(table: Table, key: str) -> Mapping[str, str] | None:
 
 
 def _actions(table: Table, plain: bool) -> dict[str, Table]:
-    """The tables of the actions. A `plain` one is the payload alone."""
+    """The tables of the actions. If `plain`, an action may be its payload alone."""
     inner = table.table("actions")
     if inner is None:
         raise table.wrong("actions", f"is missing, as in a table [{table.name}.actions]")
@@ -358,7 +358,7 @@ def _actions(table: Table, plain: bool) -> dict[str, Table]:
 def _need_state(
     table: Table, key: str, example: str, given: str | None, actions: Mapping[str, Action], acts: bool
 ) -> None:
-    """Raises HomeFileError if a device neither says its state, nor has one after each action."""
+    """Raises HomeFileError if a device doesn't report its state, and the map lacks the state after some action."""
     if given is not None or table.is_wrong:
         return
     silent = [name for name, action in actions.items() if action.state is None]
@@ -371,8 +371,8 @@ def _need_state(
 
 
 def check_map(where: str, found: Map, document: Document, behaviour: str | None) -> None:
-    """Raises HomeFileError for a name that the document hasn't, or that is missing for this behaviour; for one of
-    any behaviour, if it is None. `where` is the name of the map's table."""
+    """Raises HomeFileError for a name that this behaviour doesn't have, or that the map lacks for it. If `behaviour` is
+    None, the names of all behaviours are allowed. `where` is the name of the map's table."""
     machines = [document.behaviours[behaviour]] if behaviour is not None else list(document.behaviours.values())
     kind = behaviour or "any behaviour"
     known = {step.action: None for machine in machines for step in machine.steps}
@@ -387,7 +387,7 @@ def check_map(where: str, found: Map, document: Document, behaviour: str | None)
 
 
 def check_states(where: str, found: States, states: Collection[str], none: str, environments: Collection[str]) -> None:
-    """Raises HomeFileError for a state that isn't there."""
+    """Raises HomeFileError for an unknown state."""
     for value, state in (found.names or {}).items():
         _look_up(f"{where}.states.{value}", state, states, none, value=True)
     for value, state in (found.environments or {}).items():
@@ -395,7 +395,7 @@ def check_states(where: str, found: States, states: Collection[str], none: str, 
 
 
 def check_words(actions: Collection[str], states: Collection[str], document: Document) -> None:
-    """Raises HomeFileError for a word for an action or a state that the document hasn't."""
+    """Raises HomeFileError if there are words for an unknown action or state."""
     machines = (*document.behaviours.values(), *document.targets)
     known = dict.fromkeys((*document.environment.states, *(state for each in machines for state in each.states)))
     for name in actions:
@@ -411,7 +411,7 @@ def _look_up(key: str, name: str, known: Collection[str], none: str, value: bool
 
 
 def _check_actions(where: str, found: Map, machine: Machine) -> None:
-    """Raises HomeFileError for an action that the map hasn't, or after which it knows none of the states."""
+    """Raises HomeFileError for an action that the map lacks, or if it has no value for any state after an action."""
     for action in dict.fromkeys(step.action for step in machine.steps):
         if action not in found.actions:
             raise HomeFileError(f"{where}.actions.{action} is missing, an action of {machine.name}")

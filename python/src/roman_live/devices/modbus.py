@@ -8,6 +8,7 @@ import inspect
 import json
 import logging
 from collections.abc import Callable
+from concurrent.futures import ThreadPoolExecutor
 from typing import Any
 
 from pymodbus.client import ModbusTcpClient
@@ -38,24 +39,32 @@ UNIT = "device_id" if "device_id" in inspect.signature(ModbusTcpClient.read_coil
 
 class Modbus(PolledReach):
     """A machine whose state is read from a place, and which acts when something is written. Each exchange has a
-    connection and a thread of its own: the client waits, and a machine that hangs delays nothing else."""
+    connection of its own. A machine has threads of its own: the client waits, and one that hangs delays nothing else.
+    """
 
     reached = "modbus"
 
-    def __init__(self, service: str, listener: Listener, found: ModbusMap, outcomes: Outcomes) -> None:
-        super().__init__(service, listener, found, outcomes, found.poll)
+    def __init__(self, service: str, listener: Listener, found: ModbusMap, outcomes: Outcomes, seconds: float) -> None:
+        super().__init__(service, listener, found, outcomes, found.poll, seconds)
         self._machine = found
+        self._threads = ThreadPoolExecutor(max_workers=2)  # A call doesn't wait for a poll.
+
+    async def close(self) -> None:
+        await super().close()
+        self._threads.shutdown(wait=False, cancel_futures=True)
 
     async def fetch(self) -> str:
-        values = await asyncio.to_thread(self._exchange, lambda client: self._values(client, self._machine.state))
+        values = await self._in_a_thread(lambda client: self._values(client, self._machine.state))
         return json.dumps(values if self._machine.state.count > 1 else values[0])
 
     async def send(self, number: int, call: Call) -> str:
         action = self.action(call)
         assert isinstance(action, ModbusAction)
-        write = functools.partial(self._write, action)
-        await asyncio.to_thread(self._exchange, write)
+        await self._in_a_thread(functools.partial(self._write, action))
         return ""
+
+    async def _in_a_thread(self, talk: Callable[[Any], Any]) -> Any:
+        return await asyncio.get_running_loop().run_in_executor(self._threads, self._exchange, talk)
 
     def _exchange(self, talk: Callable[[Any], Any]) -> Any:
         """Connects, and gives what the talk with the machine gives."""

@@ -7,7 +7,7 @@ import importlib
 import inspect
 import sys
 import threading
-from collections.abc import Awaitable, Callable
+from collections.abc import Callable
 from dataclasses import replace
 from typing import Any
 
@@ -20,10 +20,10 @@ from .base import Answer, Listener, Reach
 
 
 class PythonDevice(Reach):
-    """A function of the requested action, a `roman_client.Device` or an `aio.Device`, or the class of one.
-    What isn't for asyncio runs in a thread. A device is asked by `state` about a call, and tells its present state by
-    a method `present`, if it has one, which gives the state, or it and that of the environment. Its deadline counts
-    unless the home file has one."""
+    """A function of the requested action, a `roman_client.Device` or an `aio.Device`, or the class of one. A call that
+    isn't a coroutine runs in a thread, unless the device is quick. `state` asks a device about a call. If it has a
+    method `present`, this returns its present state, or that and the state of the environment. The device's deadline
+    counts unless the home file has one. A quick device has none."""
 
     reached = "python"
 
@@ -31,6 +31,7 @@ class PythonDevice(Reach):
         super().__init__(service, listener)
         self._device = _load(entry, f"devices.{service}.call is '{entry.module}:{entry.name}', which")
         self._at_work = False
+        self.is_quick = entry.quick
         if isinstance(self._device, (roman_client.Device, aio.Device)):
             self.timeout = self._device.timeout
             self.repeatable = self._device.repeatable
@@ -55,10 +56,10 @@ class PythonDevice(Reach):
         return None if value is None else _answer(value)
 
     async def _value(self, call: Callable[..., Any], *words: Any) -> Any:
-        """The value of a call: of a coroutine function here, and of another one in a thread. Raises DeviceFailed
-        while an earlier call in a thread hasn't come to its end, so that none pile up."""
-        if inspect.iscoroutinefunction(call):
-            return await _value_of(call(*words))
+        """Calls a function, and returns its value. A function that is neither a coroutine nor quick runs in a thread.
+        Raises DeviceFailed while an earlier call still runs in a thread, so that threads don't pile up."""
+        if self.is_quick or inspect.iscoroutinefunction(call):
+            return await _value_of(call, words)
         if self._at_work:
             raise roman_client.DeviceFailed("is still at work on an earlier call")
         loop = asyncio.get_running_loop()
@@ -81,28 +82,29 @@ class PythonDevice(Reach):
         # A daemon, since one that hangs must not keep the home from its end.
         threading.Thread(target=work, daemon=True).start()
         value = await answer
-        return await _value_of(value) if inspect.isawaitable(value) else value
+        return await _value_of(lambda: value, ()) if inspect.isawaitable(value) else value
 
 
-async def _value_of(work: Awaitable[Any]) -> Any:
-    """What a device gives in the loop of the home."""
+async def _value_of(call: Callable[..., Any], words: tuple[Any, ...]) -> Any:
+    """The value of a call in the thread of the home. A coroutine is awaited."""
     try:
-        return await work
+        value = call(*words)
+        return await value if inspect.isawaitable(value) else value
     except (SystemExit, KeyboardInterrupt) as error:
         raise _failure(error) from None
 
 
 def _failure(error: BaseException) -> Exception:
-    """What a device raised, as an error of the device: SystemExit and its like would end the home, and nobody can
-    wait for a StopIteration."""
+    """The error of a device for what its code raised. SystemExit and KeyboardInterrupt would end the home, and a future
+    can't have a StopIteration."""
     if isinstance(error, Exception) and not isinstance(error, StopIteration):
         return error
     return roman_client.DeviceFailed(f"raised {error!r}")
 
 
 def _load(entry: PythonReach, which: str) -> Any:
-    """The device that an entry names, looked for beside the home file first. Raises HomeFileError, which begins
-    with those words."""
+    """Imports the device that an entry names, from the folder of the home file first. Raises HomeFileError, which
+    begins with `which`."""
     folder = str(entry.folder)
     if folder not in sys.path:
         sys.path.insert(0, folder)
@@ -118,7 +120,7 @@ def _load(entry: PythonReach, which: str) -> Any:
 
 
 def _told(value: Any) -> Answer | None:
-    """What a device tells of a call."""
+    """The answer of a device that was asked about a call."""
     if value is None:
         return None
     if value is roman_client.NOT_DONE:

@@ -1,4 +1,4 @@
-"""Devices that a person plays, who says what came of each call."""
+"""Simulated devices: a person states the outcome of each call."""
 
 from __future__ import annotations
 
@@ -11,7 +11,7 @@ from .base import Answer, Listener, Reach
 
 
 class Simulated(Reach):
-    """A device that waits for its outcome to be said. Asked for its state it says the present one."""
+    """A device that waits for the outcome that a person states. It reports its present state."""
 
     reached = "simulated"
 

@@ -1,4 +1,4 @@
-"""Asks a running home."""
+"""roman-live ask: requests an action from a running home."""
 
 from __future__ import annotations
 
@@ -9,13 +9,13 @@ from typing import Any
 import aiohttp
 
 from .config import HomeFile
-from .errors import Nobody, unreached
+from .errors import NoHome, connection_error
 
 SERVED, NOT_SERVED = 0, 1
 
 
 async def ask(file: HomeFile, action: str, key: str | None) -> int:
-    """Asks for an action, and says what came of it. Gives the status. Raises Nobody where no home answers."""
+    """Requests an action, and writes the outcome. Returns the exit status. Raises NoHome if no home answers."""
     page = file.page
     host = {"0.0.0.0": "127.0.0.1", "::": "::1"}.get(page.host, page.host)
     url = f"http://[{host}]:{page.port}" if ":" in host else f"http://{host}:{page.port}"
@@ -27,13 +27,13 @@ async def ask(file: HomeFile, action: str, key: str | None) -> int:
             async with client.post(f"{url}/requests", json=body) as response:
                 value = await response.json()
     except aiohttp.ClientConnectorError as error:
-        raise Nobody(f"nobody is at {url}: {unreached(error)}; does {file.path} run?") from None
+        raise NoHome(f"nobody is at {url}: {connection_error(error)}; does {file.path} run?") from None
     except (aiohttp.ContentTypeError, ValueError):
         value = None
     except aiohttp.ClientError as error:
-        raise Nobody(f"{url} didn't answer to its end, and {action} may be served: {error}") from None
+        raise NoHome(f"{url} didn't answer to its end, and {action} may be served: {error}") from None
     if not isinstance(value, dict) or not ("served_by" in value or "error" in value):
-        raise Nobody(f"what is at {url} is no home: it answered with status {response.status}")
+        raise NoHome(f"what is at {url} is no home: it answered with status {response.status}")
     for failure in value.get("failures", ()):
         print(f"{failure['service']} failed: {failure['error']}", file=sys.stderr)
     if response.status == 200:

@@ -1,4 +1,4 @@
-"""Who made a request, and why a service was chosen for it: what the events say of that."""
+"""The source of a request, and the reason for a choice, as events name them."""
 
 from __future__ import annotations
 
@@ -9,10 +9,10 @@ from roman_client.policies import Choice
 from .config import PolicyName
 
 LONGEST_NAME = 64
-"""The most letters of a name that a request gives."""
+"""The most characters of a source's name."""
 
-ASKER: ContextVar[str | None] = ContextVar("asker", default=None)
-"""Who made the request that the present task serves."""
+SOURCE: ContextVar[str | None] = ContextVar("source", default=None)
+"""The source of the request that the present task serves."""
 
 REASONS = {
     PolicyName.FIRST: "the first of {}",
@@ -22,8 +22,8 @@ REASONS = {
 }
 
 
-def name_of(given: object, channel: str) -> str:
-    """The name of who made a request: the one that is given, or else by what it came."""
+def source_of(given: object, channel: str) -> str:
+    """The name of the source of a request: the given one, or its channel."""
     return given[:LONGEST_NAME] if isinstance(given, str) and given.strip() else channel
 
 
