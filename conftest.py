@@ -1,7 +1,10 @@
-"""What all tests share: how many cases Hypothesis draws, for a run of all tests, for hours, and until a wrong program is
-found out; and how a test's output is passed on."""
+"""What all tests share: how many cases Hypothesis draws (for a run of all tests, for hours, and until a wrong program
+is found out), how a test's output is passed on, and how a test that is a coroutine runs."""
 
+import asyncio
+import inspect
 from collections.abc import Generator
+from contextlib import AsyncExitStack
 from typing import Any
 
 import pytest
@@ -19,3 +22,26 @@ def pytest_runtest_makereport() -> Generator[None, Any, None]:
     outcome = yield
     report = outcome.get_result()
     report.sections = [(name, text.encode("utf-8", "backslashreplace").decode()) for name, text in report.sections]
+
+
+@pytest.fixture
+def at_end() -> Generator[AsyncExitStack, None, None]:
+    """What is called at the end of a test, and in its event loop if it has one."""
+    stack = AsyncExitStack()
+    yield stack
+    asyncio.run(stack.aclose())
+
+
+@pytest.hookimpl(tryfirst=True)
+def pytest_pyfunc_call(pyfuncitem: pytest.Function) -> bool | None:
+    """Runs a test that is a coroutine in an event loop of its own."""
+    test, given = pyfuncitem.obj, pyfuncitem.funcargs
+    if not inspect.iscoroutinefunction(test):
+        return None
+
+    async def run() -> None:
+        async with given.get("at_end", AsyncExitStack()):
+            await test(**{name: given[name] for name in inspect.signature(test).parameters})
+
+    asyncio.run(run())
+    return True

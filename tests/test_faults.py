@@ -4,9 +4,9 @@ import json
 import os
 import shutil
 import subprocess
-import tempfile
-import unittest
 from pathlib import Path
+
+import pytest
 
 from . import program, reference
 from .program import run
@@ -33,117 +33,97 @@ SEVERAL = (
 """A session with a document of version 3, whose parts stand in files of their own."""
 
 
-class Faults(unittest.TestCase):
-    @classmethod
-    def setUpClass(cls):
-        cls.folder = Path(tempfile.mkdtemp())
-        cls.addClassCleanup(shutil.rmtree, cls.folder)
-        cls.library = cls.folder / "failing.so"
-        source = Path(__file__).with_name("failing.c")
-        subprocess.run(["cc", "-O1", "-shared", "-fPIC", "-o", cls.library, source, "-ldl"], check=True)
-        shutil.copy(program.SAMPLES / "lamp.json", cls.folder)
-        (cls.folder / "lamp.session").write_bytes(SESSION)
-        (cls.folder / "lamp.costs").write_bytes(b'[["lamp","on",3],["lamp","off",1]]')
-        two = json.loads((program.SAMPLES / "two.json").read_text(encoding="utf-8"))
-        for name, holder, key in (
-            ("world", two, "environment"),
-            ("kind", two["behaviours"], 0),
-            ("second", two["targets"], 1),
-        ):
-            (cls.folder / f"{name}.json").write_text(json.dumps(holder[key]), encoding="utf-8")
-            holder[key] = {"file": f"{name}.json"}
-        (cls.folder / "several.json").write_text(json.dumps(two), encoding="utf-8")
-        (cls.folder / "several.session").write_bytes(SEVERAL)
-        (cls.folder / "lamp.cert").write_bytes(run(["certify", "lamp.json"], cls.folder).text)
+@pytest.fixture(scope="module")
+def folder(tmp_path_factory):
+    """The files that the commands read, and the library that lets calls fail."""
+    made = tmp_path_factory.mktemp("faults")
+    source = Path(__file__).with_name("failing.c")
+    subprocess.run(["cc", "-O1", "-shared", "-fPIC", "-o", made / "failing.so", source, "-ldl"], check=True)
+    shutil.copy(program.SAMPLES / "lamp.json", made)
+    (made / "lamp.session").write_bytes(SESSION)
+    (made / "lamp.costs").write_bytes(b'[["lamp","on",3],["lamp","off",1]]')
+    two = json.loads((program.SAMPLES / "two.json").read_text(encoding="utf-8"))
+    for name, holder, key in (
+        ("world", two, "environment"),
+        ("kind", two["behaviours"], 0),
+        ("second", two["targets"], 1),
+    ):
+        (made / f"{name}.json").write_text(json.dumps(holder[key]), encoding="utf-8")
+        holder[key] = {"file": f"{name}.json"}
+    (made / "several.json").write_text(json.dumps(two), encoding="utf-8")
+    (made / "several.session").write_bytes(SEVERAL)
+    (made / "lamp.cert").write_bytes(run(["certify", "lamp.json"], made).text)
+    return made
 
-    def each_fault(self, kind, words, session):
-        """Yields how the run ends with fault 1, 2, .. until one ends before its fault comes."""
+
+class Command:
+    """A command, and how it ends plainly."""
+
+    def __init__(self, name, folder):
+        self.name = name
+        self.folder = folder
+        self.words, takes = COMMANDS[name]
+        self.session = SESSION if takes else b""
+        self.plain = run(self.words, folder, self.session)
+
+    def with_fault(self, kind, at, told=""):
+        """How it ends if calls of this kind fail."""
+        library, told = os.fspath(self.folder / "failing.so"), os.fspath(told)
+        fault = {"LD_PRELOAD": library, "FAIL_KIND": kind, "FAIL_AT": str(at), **({"FAIL_TOLD": told} if told else {})}
+        return run(self.words, self.folder, self.session, fault)
+
+    def each_fault(self, kind):
+        """How it ends with fault 1, 2, .. until it ends before its fault comes."""
         told = self.folder / "told"
-        at = 1
+        found = []
         while True:
             told.unlink(missing_ok=True)
-            ended = run(
-                words,
-                self.folder,
-                session,
-                {
-                    "LD_PRELOAD": os.fspath(self.library),
-                    "FAIL_KIND": kind,
-                    "FAIL_AT": str(at),
-                    "FAIL_TOLD": os.fspath(told),
-                },
-            )
+            ended = self.with_fault(kind, len(found) + 1, told)
             if not told.exists():
-                return
-            yield at, ended
-            at += 1
+                return found
+            assert self.plain.text.startswith(ended.text)
+            found.append(ended)
 
-    def check_each(self, kind, is_right):
-        for name, (words, takes) in COMMANDS.items():
-            session = SESSION if takes else b""
-            plain = run(words, self.folder, session)
-            count = 0
-            for at, ended in self.each_fault(kind, words, session):
-                count = at
-                with self.subTest(command=name, kind=kind, at=at, status=ended.status):
-                    self.assertTrue(plain.text.startswith(ended.text), ended.text)
-                    self.assertTrue(is_right(name, plain, ended), ended)
-            yield name, count
 
-    def test_memory(self):
-        def is_right(_name, plain, ended):
-            return ended == plain or ended == program.Ended(program.MEMORY, b"")
+@pytest.fixture(params=COMMANDS)
+def command(request, folder):
+    return Command(request.param, folder)
 
-        for name, count in self.check_each("memory", is_right):
-            self.assertGreater(count, 0 if name == "make" else 10, name)
 
-    def test_reads(self):
-        def is_right(name, _plain, ended):
-            return ended.status in (program.SHELF_FAULT, program.READ_FAULT if name == "run" else program.SHELF_FAULT)
+def test_memory(command):
+    faults = command.each_fault("memory")
+    assert [ended for ended in faults if ended not in (command.plain, program.Ended(program.MEMORY, b""))] == []
+    assert len(faults) > (0 if command.name == "make" else 10)
 
-        counts = dict(self.check_each("read", is_right))
-        self.assertEqual(counts.pop("make"), 0)
-        for name, count in counts.items():
-            self.assertGreater(count, 1, name)
 
-    def test_writes(self):
-        def is_right(_name, _plain, ended):
-            return ended.status == program.WRITE_FAULT
+def test_reads(command):
+    faults = command.each_fault("read")
+    statuses = {program.SHELF_FAULT, *([program.READ_FAULT] if command.name == "run" else [])}
+    assert {ended.status for ended in faults} <= statuses
+    assert len(faults) > 1 or (command.name == "make" and not faults)
 
-        for name, count in self.check_each("write", is_right):
-            self.assertGreater(count, 0, name)
 
-    def each_kind(self, *kinds):
-        """Yields how each command ends plainly, and with one of these kinds of calls."""
-        for name, (words, takes) in COMMANDS.items():
-            session = SESSION if takes else b""
-            plain = run(words, self.folder, session)
-            self.assertTrue(plain.text)
-            for kind, at in kinds:
-                with self.subTest(command=name, kind=kind, at=at):
-                    yield plain, run(
-                        words,
-                        self.folder,
-                        session,
-                        {"LD_PRELOAD": os.fspath(self.library), "FAIL_KIND": kind, "FAIL_AT": at},
-                    )
+def test_writes(command):
+    faults = command.each_fault("write")
+    assert {ended.status for ended in faults} == {program.WRITE_FAULT}
 
-    def test_calls_that_move_few_bytes(self):
-        """They are no faults: each run ends as it does without."""
-        for plain, ended in self.each_kind(("short", "1"), ("short", "7")):
-            self.assertEqual(ended, plain)
 
-    def test_calls_that_are_interrupted(self):
-        """They are tried again, or they are faults; nothing is lost unseen."""
-        faults = (program.SHELF_FAULT, program.READ_FAULT, program.WRITE_FAULT)
-        for plain, ended in self.each_kind(("interrupted", "0")):
-            self.assertTrue(ended == plain or ended.status in faults and plain.text.startswith(ended.text), ended)
+@pytest.mark.parametrize("bytes_at_once", [1, 7])
+def test_calls_that_move_few_bytes(command, bytes_at_once):
+    """They are no faults: each run ends as it does without."""
+    assert command.plain.text
+    assert command.with_fault("short", bytes_at_once) == command.plain
 
-    def test_what_is_tried_is_right(self):
-        """The runs that fail here do what they should where nothing fails."""
-        shelf = {each.name: each.read_bytes() for each in self.folder.iterdir() if each.suffix != ".so"}
-        for name, (words, takes) in COMMANDS.items():
-            session = SESSION if takes else b""
-            ended = run(words, self.folder, session)
-            with self.subTest(command=name):
-                self.assertIsNone(reference.run_fault(words, shelf, session, ended.status, ended.text))
+
+def test_calls_that_are_interrupted(command):
+    """They are tried again, or they are faults; nothing is lost unseen."""
+    faults = (program.SHELF_FAULT, program.READ_FAULT, program.WRITE_FAULT)
+    plain, ended = command.plain, command.with_fault("interrupted", 0)
+    assert ended == plain or ended.status in faults and plain.text.startswith(ended.text)
+
+
+def test_what_is_tried_is_right(command):
+    """The runs that fail here do what they should where nothing fails."""
+    shelf = {each.name: each.read_bytes() for each in command.folder.iterdir() if each.suffix != ".so"}
+    plain = command.plain
+    assert reference.run_fault(command.words, shelf, command.session, plain.status, plain.text) is None

@@ -386,6 +386,8 @@ NO_DOCUMENT = {"required": [], "properties": {}, "allOf": [], "type": "object"}
 def undescribed(value: Any, where: str) -> Iterator[str]:
     """The members that have no description."""
     for name, member in value.get("properties", {}).items():
+        if isinstance(member, bool):
+            continue  # It forbids a member in some case, and describes none.
         if "description" not in member:
             yield f"{where} {name}"
         yield from undescribed(member, f"{where} {name}")

@@ -8,6 +8,7 @@ would leave behind if it were ended before or after each of its effects.
 from __future__ import annotations
 
 import contextlib
+import functools
 from collections.abc import Iterator, Mapping
 from dataclasses import dataclass, field, replace
 from typing import Any
@@ -31,13 +32,13 @@ from roman_client import (
     StoreFailed,
     protocol,
 )
-from roman_client.core import Dispatching
+from roman_client.core import Ahead, Dispatching
 from roman_client.effects import AskState, Begin, Choose, Commit, Notify, Restore, Serve
 from roman_client.policies import Choice
 from roman_client.position import Position
 from roman_client.protocol import Effect, Tell
 from roman_client.replies import Explanation, Move, Offer, Repair, Report, Service
-from roman_client.store import CallBegun, CallEnded, KeyKept, Stored
+from roman_client.store import CallBegun, CallEnded, KeyStored, Stored
 
 TICK = {
     "roman": 1,
@@ -281,6 +282,8 @@ class Run:
                 if word == "request":
                     done: Done = self.perform(self.core.turn(lambda: self.core.request("tick", rest)))
                     return f"{done.service} {done.state}"
+                if word == "both":
+                    return " ".join(self.take_both(*rest.split()))
                 if word == "freeze":
                     self.perform(self.core.turn(lambda: self.core.event(protocol.freeze(rest))))
                 else:
@@ -295,6 +298,31 @@ class Run:
             except StoreFailed:
                 continue
         raise AssertionError(f"{step} comes to no end")
+
+    def take_both(self, *keys: str) -> list[str]:
+        """Requests that follow each other at once. Gives what is told when all are acknowledged."""
+        told: dict[str, str] = {}
+
+        def settle(key: str, done: Done | None, error: BaseException | None) -> None:
+            if done is not None:
+                told[key] = f"{done.service} {done.state}"
+                acknowledged = (str(self.universe.step), f"acknowledged {key}")
+                self.universe = replace(self.universe, told=(*self.universe.told, acknowledged))
+
+        for key in keys:
+            ahead = Ahead(functools.partial(settle, key), lambda: key != keys[-1])
+            try:
+                done: Done = self.perform(self.core.turn(lambda: self.core.request("tick", key, None, ahead)))
+            except InDoubt:
+                assert not any(each == f"acknowledged {key}" for _, each in self.universe.told), f"{key} isn't kept"
+                told[key] = "in doubt"
+                continue
+            if not self.core.is_owed(done):
+                told[key] = f"{done.service} {done.state}"
+        self.perform(self.core.turn(self.core.flush))
+        if len(told) < len(keys):
+            raise StoreFailed("one isn't acknowledged")
+        return [told[key] for key in keys]
 
     def return_all(self) -> None:
         """Thaws what isn't frozen by hand, in the state that its device tells."""
@@ -387,12 +415,13 @@ class Run:
         assert stored is not None
         for entry in effect.entries:
             if isinstance(entry, CallBegun):
+                assert stored.under_way in (None, entry.call), f"{stored.under_way} never ends"
                 failures = stored.failures if stored.request == entry.request else ()
                 stored = replace(stored, under_way=entry.call, request=entry.request, failures=failures)
             elif isinstance(entry, CallEnded):
                 if stored.under_way is not None and stored.under_way.number == entry.number:
                     stored = replace(stored, under_way=None)
-            elif isinstance(entry, KeyKept):
+            elif isinstance(entry, KeyStored):
                 stored = replace(stored, keys={**stored.keys, entry.key: entry.kept})
         self.universe = replace(self.universe, disk=replace(stored, position=effect.position))
 
@@ -437,6 +466,9 @@ class Run:
             word, _, rest = self.script[int(number)].partition(" ")
             if word == "request" and told != "in doubt":
                 assert rest in acted, f"{rest} was acknowledged, and not done: {self.universe}"
+            if word == "both" and "in doubt" not in told:
+                keys = told.split()[1:] if told.startswith("acknowledged") else rest.split()
+                assert set(keys) <= set(acted), f"{keys} were acknowledged, and not done: {self.universe}"
         for name, clock in self.universe.clocks:
             place = position.places[name]
             assert place.frozen is not None or place.state == clock.state, f"{name} is {clock.state}: {place}"

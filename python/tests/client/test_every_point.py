@@ -17,6 +17,9 @@ REQUESTS = ("request one", "freeze t1", "request two", "thaw t1", "request three
 
 HELD = ("request one", "freeze t1", "freeze t2", "thaw t2", "request two", "request three")
 
+BOTH = ("both one two", "freeze t1", "both three four", "thaw t1")
+"""Requests that follow each other at once: the end of one is written with the call of the next one."""
+
 HOMES = {
     "two that tell": (Manner(), Manner()),
     "two that tell their state": (Manner("plain"), Manner("plain")),
@@ -55,26 +58,27 @@ def explore(manners: dict[str, Manner], script: tuple[str, ...], ends: int) -> i
     return runs
 
 
-@pytest.mark.parametrize("script", [REQUESTS, HELD], ids=["requests", "held"])
+@pytest.mark.parametrize("script", [REQUESTS, HELD, BOTH], ids=["requests", "held", "both"])
 @pytest.mark.parametrize("home", HOMES)
 def test_a_home_that_is_ended(home: str, script: tuple[str, ...]) -> None:
     manners = dict(zip(("t1", "t2"), HOMES[home]))
     assert explore(manners, script, ENDS) > 20
 
 
+@pytest.mark.parametrize("script", [REQUESTS, BOTH], ids=["requests", "both"])
 @pytest.mark.parametrize("kind", ["ended before", "ended after", "full"])
 @pytest.mark.parametrize("home", HOMES)
-def test_a_home_whose_program_ends_or_whose_disk_is_full(home: str, kind: str) -> None:
+def test_a_home_whose_program_ends_or_whose_disk_is_full(home: str, kind: str, script: tuple[str, ...]) -> None:
     """At each effect, and then the home is ended at each effect after that."""
     manners = dict(zip(("t1", "t2"), HOMES[home]))
-    plain = Run(beginning(manners), manners, REQUESTS)
+    plain = Run(beginning(manners), manners, script)
     plain.go()
     for at in range(2, plain.effects + 1):
-        run = Run(beginning(manners), manners, REQUESTS, Faults(at, kind))
+        run = Run(beginning(manners), manners, script, Faults(at, kind))
         run.go()
         run.check()
         for universe in {each.identity(): each for each in run.left}.values():
-            after = Run(universe, manners, REQUESTS)
+            after = Run(universe, manners, script)
             after.go()
             after.check()
 

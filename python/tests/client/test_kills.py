@@ -8,9 +8,11 @@ import sys
 import tempfile
 import threading
 import time
-import unittest
+from collections.abc import Iterator
 from contextlib import suppress
 from pathlib import Path
+
+import pytest
 
 from roman_client import Dispatcher, Document, Session
 
@@ -32,18 +34,14 @@ def kill_children(parent: int) -> int:
     return len(children.split())
 
 
-class Kills(unittest.TestCase):
+class Kills:
     """Whatever is killed, and when: each request is served once, in its turn, and none is lost."""
 
-    def setUp(self) -> None:
-        folder = tempfile.TemporaryDirectory()
-        self.addCleanup(folder.cleanup)
-        self.folder = Path(folder.name)
+    def __init__(self, folder: Path) -> None:
+        self.folder = folder
         self.world = World(Document.load(sample("home.json")), seed=3, failing=0.02)
         self.server = Server(str(self.folder / "socket"), self.world)
         threading.Thread(target=self.server.serve_forever, daemon=True).start()
-        self.addCleanup(self.server.server_close)
-        self.addCleanup(self.server.shutdown)
 
     def start(self, count: int) -> "subprocess.Popen[str]":
         words = [sample("home.json"), PROGRAM, str(self.folder), str(count)]
@@ -59,23 +57,23 @@ class Kills(unittest.TestCase):
         return len(self.world.played)
 
     def check(self, count: int) -> None:
-        self.assertEqual(self.world.wrong, [])
+        assert self.world.wrong == []
         cycle = ("brighten", "boil", "pour", "dim")
         expected = [cycle[number % 4] for number in range(count)]
-        self.assertEqual(self.world.played, expected)
+        assert self.world.played == expected
         with Session(sample("home.json"), program=PROGRAM) as session:
             remote = Remote(str(self.folder / "socket"))
             devices = {name: remote for name in ("window", "ceiling", "kettle")}
             with Dispatcher(session, devices, store=self.folder / "journal") as dispatcher:
-                self.assertEqual(dispatcher.served, count)
+                assert dispatcher.served == count
                 report = dispatcher.report()
         states = {service.name: service.state for service in report.services}
-        self.assertEqual(states, self.world.states)
-        self.assertEqual(report.environment, self.world.environment)
+        assert states == self.world.states
+        assert report.environment == self.world.environment
 
     def finish(self, running: "subprocess.Popen[str]") -> None:
         errors = running.communicate(timeout=600)[1]
-        self.assertEqual((running.returncode, errors), (0, ""))
+        assert (running.returncode, errors) == (0, "")
 
     def kill_often(self, kills: int, chance: random.Random) -> tuple[int, list[int]]:
         """Kills the dispatcher so often, each time after some more requests and a moment. There are more to
@@ -94,42 +92,50 @@ class Kills(unittest.TestCase):
                 count += 150
         return count, reached
 
-    def test_the_dispatcher(self) -> None:
-        count, reached = self.kill_often(20, random.Random(11))
-        self.assertGreater(len(set(reached)), 8)
-        self.finish(self.start(count))
-        self.check(count)
 
-    def test_the_program(self) -> None:
-        """More than ten kills, however few of them a busy machine lets into so many requests."""
-        chance = random.Random(12)
-        killed = count = 0
-        while killed <= 10:
-            count += 300
-            self.assertLess(count, 30_000, f"killed only {killed} times")
-            running = self.start(count)
-            while running.poll() is None:
-                killed += kill_children(running.pid)
-                goal = self.served() + chance.choice((0, 1, 4, 30))
-                while self.served() < goal and running.poll() is None:
-                    time.sleep(0.0005)
-                time.sleep(chance.random() * chance.choice((0.002, 0.02, 0.2)))
-            self.finish(running)
-        self.check(count)
-
-    def test_both(self) -> None:
-        chance = random.Random(13)
-        for _ in range(6):
-            running = self.start(100)
-            until = time.monotonic() + 0.5 + chance.random()
-            while time.monotonic() < until and running.poll() is None:
-                kill_children(running.pid)
-                time.sleep(chance.random() * 0.2)
-            running.kill()
-            running.communicate()
-        self.finish(self.start(100))
-        self.check(100)
+@pytest.fixture
+def kills() -> Iterator[Kills]:
+    with tempfile.TemporaryDirectory() as folder:
+        found = Kills(Path(folder))
+        yield found
+        found.server.shutdown()
+        found.server.server_close()
 
 
-if __name__ == "__main__":
-    unittest.main()
+def test_the_dispatcher(kills: Kills) -> None:
+    count, reached = kills.kill_often(20, random.Random(11))
+    assert len(set(reached)) > 8
+    kills.finish(kills.start(count))
+    kills.check(count)
+
+
+def test_the_program(kills: Kills) -> None:
+    """More than ten kills, however few of them a busy machine lets into so many requests."""
+    chance = random.Random(12)
+    killed = count = 0
+    while killed <= 10:
+        count += 300
+        assert count < 30_000, f"killed only {killed} times"
+        running = kills.start(count)
+        while running.poll() is None:
+            killed += kill_children(running.pid)
+            goal = kills.served() + chance.choice((0, 1, 4, 30))
+            while kills.served() < goal and running.poll() is None:
+                time.sleep(0.0005)
+            time.sleep(chance.random() * chance.choice((0.002, 0.02, 0.2)))
+        kills.finish(running)
+    kills.check(count)
+
+
+def test_both(kills: Kills) -> None:
+    chance = random.Random(13)
+    for _ in range(6):
+        running = kills.start(100)
+        until = time.monotonic() + 0.5 + chance.random()
+        while time.monotonic() < until and running.poll() is None:
+            kill_children(running.pid)
+            time.sleep(chance.random() * 0.2)
+        running.kill()
+        running.communicate()
+    kills.finish(kills.start(100))
+    kills.check(100)

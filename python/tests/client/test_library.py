@@ -2,7 +2,6 @@
 
 ROMAN_LIBRARY names the shared library; without it `./build --library` makes it, unless it is there."""
 
-import asyncio
 import os
 import subprocess
 from pathlib import Path
@@ -47,25 +46,19 @@ def fixture_within() -> Any:
         yield
 
 
-class TestEvents(test_session.Events):
-    """Each event, its value and its refusals."""
-
-
-class TestGoingOn(test_session.GoingOn):
-    """Snapshots. A session within a process never has to go on in a new program."""
-
-    test_a_session_goes_on_before_it_is_too_long = None  # type: ignore[assignment]
-    test_a_session_of_more_than_16_megabytes = None  # type: ignore[assignment]
-    test_no_place_for_the_next_program_yet = None  # type: ignore[assignment]
+NOT_WITHIN = {
+    # A session within a process never has to go on in a new program.
+    "test_a_session_goes_on_before_it_is_too_long",
+    "test_a_session_of_more_than_16_megabytes",
+    "test_no_place_for_the_next_program_yet",
     # Its program moves the document away.
-    test_a_document_that_is_not_to_be_read_from_here = None  # type: ignore[assignment]
-
-
-class TestEnds(test_session.Ends):
-    """Documents that begin no session, and calls after the end."""
-
+    "test_a_document_that_is_not_to_be_read_from_here",
     # There is no program to kill.
-    test_a_program_that_is_killed = None  # type: ignore[assignment]
+    "test_a_program_that_is_killed",
+}
+SESSIONS = {name: test for name, test in vars(test_session).items() if name.startswith("test_")}
+assert NOT_WITHIN < SESSIONS.keys()
+globals().update((name, test) for name, test in SESSIONS.items() if name not in NOT_WITHIN)
 
 
 def test_part_files_are_put_on_the_shelf() -> None:
@@ -81,14 +74,11 @@ def test_a_library_that_is_not_there() -> None:
         roman_client.Session(sample("home.json"), library="/nowhere/libroman.so")
 
 
-def test_a_session_that_is_awaited() -> None:
-    async def talk() -> None:
-        async with aio.Session(sample("home.json"), library=LIBRARY) as session:
-            assert (await session.do("brighten")).services == ("window", "ceiling")
-            with pytest.raises(roman_client.Busy):
-                await session.freeze("window")
-            assert session.status is None and await session.quit() == 0
-            with pytest.raises(roman_client.ProgramEnded):
-                await session.report()
-
-    asyncio.run(talk())
+async def test_a_session_that_is_awaited() -> None:
+    async with aio.Session(sample("home.json"), library=LIBRARY) as session:
+        assert (await session.do("brighten")).services == ("window", "ceiling")
+        with pytest.raises(roman_client.Busy):
+            await session.freeze("window")
+        assert session.status is None and await session.quit() == 0
+        with pytest.raises(roman_client.ProgramEnded):
+            await session.report()

@@ -4,8 +4,10 @@ import os
 import signal
 import sys
 import time
-import unittest
+from collections.abc import Iterator
 from unittest import mock
+
+import pytest
 
 import roman_client as roman
 from roman_client import Session, pipes
@@ -38,57 +40,66 @@ def session(code: str, timeout: float | None = None) -> Session:
     return talk
 
 
-class Pipes(unittest.TestCase):
+@pytest.fixture(autouse=True)
+def bounded() -> Iterator[None]:
     """No call waits for a program that hangs, be the machine ever so busy."""
+    begun = time.monotonic()
+    yield
+    assert time.monotonic() - begun < LONG / 2
 
-    def setUp(self) -> None:
-        self.begun = time.monotonic()
 
-    def tearDown(self) -> None:
-        self.assertLess(time.monotonic() - self.begun, LONG / 2)
+def ended(code: str, status: int) -> roman.ProgramEnded:
+    """The error of a call of which the program ends with a status."""
+    with session(code) as talk, pytest.raises(roman.ProgramEnded) as caught:
+        talk.do("on")
+    assert caught.value.status == status
+    return caught.value
 
-    def ended(self, code: str, status: int) -> roman.ProgramEnded:
-        with session(code) as talk, self.assertRaises(roman.ProgramEnded) as caught:
-            talk.do("on")
-        self.assertEqual(caught.exception.status, status)
-        return caught.exception
 
-    def test_ctrl_c_does_not_reach_the_program(self) -> None:
-        with session(f"time.sleep({LONG})") as talk:
-            self.assertEqual(os.getsid(talk.pid), talk.pid)
-            os.kill(talk.pid, signal.SIGKILL)
+def test_ctrl_c_does_not_reach_the_program() -> None:
+    with session(f"time.sleep({LONG})") as talk:
+        assert os.getsid(talk.pid) == talk.pid
+        os.kill(talk.pid, signal.SIGKILL)
 
-    def test_a_program_that_ends_at_once(self) -> None:
-        with self.assertRaises(roman.ProgramEnded) as caught:
-            Session("system", program=[sys.executable, "-c", "raise SystemExit(9)"])
-        self.assertEqual(caught.exception.status, 9)
 
-    def test_a_program_that_is_not_there(self) -> None:
-        with self.assertRaises(FileNotFoundError):
-            Session("system", program="/nowhere/roman")
+def test_a_program_that_ends_at_once() -> None:
+    with pytest.raises(roman.ProgramEnded) as caught:
+        Session("system", program=[sys.executable, "-c", "raise SystemExit(9)"])
+    assert caught.value.status == 9
 
-    def test_a_program_that_ends_before_the_line(self) -> None:
-        self.ended("raise SystemExit(7)", 7)
 
-    def test_a_program_that_ends_in_place_of_a_reply(self) -> None:
-        end = self.ended("sys.stdin.readline(); sys.stderr.write('roman: oh\\n'); sys.exit(6)", 6)
-        self.assertEqual(end.errors, ("roman: oh",))
-        self.assertIn("roman: oh", str(end))
+def test_a_program_that_is_not_there() -> None:
+    with pytest.raises(FileNotFoundError):
+        Session("system", program="/nowhere/roman")
 
-    def test_a_program_that_ends_within_a_line(self) -> None:
-        end = self.ended("sys.stdin.readline(); say('offer l'); sys.exit(7)", 7)
-        self.assertEqual(end.output, ("offer l",))
 
-    def test_a_program_that_ends_within_a_report(self) -> None:
-        with session("sys.stdin.readline(); say('pairs 4\\nrelated 2\\n'); sys.exit(7)") as talk:
-            with self.assertRaises(roman.ProgramEnded):
-                talk.report()
+def test_a_program_that_ends_before_the_line() -> None:
+    ended("raise SystemExit(7)", 7)
 
-    def test_a_program_that_only_closes_its_output(self) -> None:
-        self.ended(f"sys.stdin.readline(); os.close(1); time.sleep({LONG})", -9)
 
-    def test_a_pipe_that_another_process_holds(self) -> None:
-        code = f"""
+def test_a_program_that_ends_in_place_of_a_reply() -> None:
+    end = ended("sys.stdin.readline(); sys.stderr.write('roman: oh\\n'); sys.exit(6)", 6)
+    assert end.errors == ("roman: oh",)
+    assert "roman: oh" in str(end)
+
+
+def test_a_program_that_ends_within_a_line() -> None:
+    end = ended("sys.stdin.readline(); say('offer l'); sys.exit(7)", 7)
+    assert end.output == ("offer l",)
+
+
+def test_a_program_that_ends_within_a_report() -> None:
+    with session("sys.stdin.readline(); say('pairs 4\\nrelated 2\\n'); sys.exit(7)") as talk:
+        with pytest.raises(roman.ProgramEnded):
+            talk.report()
+
+
+def test_a_program_that_only_closes_its_output() -> None:
+    ended(f"sys.stdin.readline(); os.close(1); time.sleep({LONG})", -9)
+
+
+def test_a_pipe_that_another_process_holds() -> None:
+    code = f"""
 sys.stdin.readline()
 child = os.fork()
 if child == 0:
@@ -96,64 +107,72 @@ if child == 0:
 print(child, file=sys.stderr, flush=True)
 os._exit(5)
 """
-        end = self.ended(code, 5)
-        os.kill(int(end.errors[0]), signal.SIGKILL)
+    end = ended(code, 5)
+    os.kill(int(end.errors[0]), signal.SIGKILL)
 
-    def test_a_program_that_hangs_before_its_first_report(self) -> None:
-        with self.assertRaises(roman.NoReply):
-            words = [sys.executable, "-c", f"import time; time.sleep({LONG})"]
-            Session("system", program=words, timeout=0.5)
 
-    def test_a_program_that_hangs(self) -> None:
-        with session(f"time.sleep({LONG})", timeout=0.5) as talk:
-            with self.assertRaises(roman.NoReply):
-                talk.do("on")
-            with self.assertRaises(roman.ProgramEnded):
-                talk.do("on")
+def test_a_program_that_hangs_before_its_first_report() -> None:
+    with pytest.raises(roman.NoReply):
+        words = [sys.executable, "-c", f"import time; time.sleep({LONG})"]
+        Session("system", program=words, timeout=0.5)
 
-    def test_a_program_that_hangs_before_it_has_read_a_long_line(self) -> None:
-        with session(f"time.sleep({LONG})", timeout=0.5) as talk:
-            with self.assertRaises(roman.NoReply):
-                talk.do("a" * 1_000_000)
-        with session("say('x'); time.sleep(1); raise SystemExit(7)") as talk:
-            with self.assertRaises(roman.ProgramEnded) as caught:
-                talk.do("a" * 1_000_000)
-            self.assertEqual(caught.exception.status, 7)
 
-    def test_a_long_line_that_is_read_slowly(self) -> None:
-        code = "line = sys.stdin.readline(); say(f'offer {len(line)}\\n'); sys.stdin.readline()"
-        with session(code, timeout=LONG / 2) as talk:
-            self.assertEqual(talk.do("a" * 1_000_000).services, ("1000004",))
+def test_a_program_that_hangs() -> None:
+    with session(f"time.sleep({LONG})", timeout=0.5) as talk:
+        with pytest.raises(roman.NoReply):
+            talk.do("on")
+        with pytest.raises(roman.ProgramEnded):
+            talk.do("on")
 
-    def test_a_program_that_hangs_at_its_end(self) -> None:
-        with session(f"time.sleep({LONG})", timeout=0.5) as talk:
-            assert isinstance(talk._pipes, pipes.Pipes)
-            process = talk._pipes.process
-            with mock.patch.object(process, "wait", wraps=process.wait) as wait:
-                self.assertEqual(talk.close(), -9)
-            self.assertEqual(wait.call_args_list[0], mock.call(timeout=0.5))
 
-    def test_a_report_that_comes_too_slowly(self) -> None:
-        code = f"""
+def test_a_program_that_hangs_before_it_has_read_a_long_line() -> None:
+    with session(f"time.sleep({LONG})", timeout=0.5) as talk:
+        with pytest.raises(roman.NoReply):
+            talk.do("a" * 1_000_000)
+    with session("say('x'); time.sleep(1); raise SystemExit(7)") as talk:
+        with pytest.raises(roman.ProgramEnded) as caught:
+            talk.do("a" * 1_000_000)
+        assert caught.value.status == 7
+
+
+def test_a_long_line_that_is_read_slowly() -> None:
+    code = "line = sys.stdin.readline(); say(f'offer {len(line)}\\n'); sys.stdin.readline()"
+    with session(code, timeout=LONG / 2) as talk:
+        assert talk.do("a" * 1_000_000).services == ("1000004",)
+
+
+def test_a_program_that_hangs_at_its_end() -> None:
+    with session(f"time.sleep({LONG})", timeout=0.5) as talk:
+        assert isinstance(talk._pipes, pipes.Pipes)
+        process = talk._pipes.process
+        with mock.patch.object(process, "wait", wraps=process.wait) as wait:
+            assert talk.close() == -9
+        assert wait.call_args_list[0] == mock.call(timeout=0.5)
+
+
+def test_a_report_that_comes_too_slowly() -> None:
+    code = f"""
 sys.stdin.readline()
 for line in "{OPENING}".splitlines(True):
     say(line)
     time.sleep(0.3)
 """
+    with session(code) as talk:
+        assert talk.report().composition
+    with session(code, timeout=1) as talk, pytest.raises(roman.NoReply):
+        talk.report()
+
+
+def test_a_reply_that_makes_no_sense() -> None:
+    for reply in ("offering l1", "now", "", "kept 1 added"):
+        code = f"sys.stdin.readline(); say('{reply}\\n'); time.sleep({LONG})"
         with session(code) as talk:
-            self.assertTrue(talk.report().composition)
-        with session(code, timeout=1) as talk, self.assertRaises(roman.NoReply):
-            talk.report()
+            with pytest.raises(roman.UnexpectedReply):
+                talk.saw("on", "e")
 
-    def test_a_reply_that_makes_no_sense(self) -> None:
-        for reply in ("offering l1", "now", "", "kept 1 added"):
-            code = f"sys.stdin.readline(); say('{reply}\\n'); time.sleep({LONG})"
-            with session(code) as talk:
-                with self.subTest(reply), self.assertRaises(roman.UnexpectedReply):
-                    talk.saw("on", "e")
 
-    def test_a_long_report_and_a_flood_of_errors(self) -> None:
-        code = """
+def test_a_long_report_and_a_flood_of_errors() -> None:
+    code = """
 sys.stdin.readline()
 sys.stderr.write("x" * 3_000_000)
 services = " ".join(f"s{i}" for i in range(200_000))
@@ -163,27 +182,25 @@ say("answer composition\\noffer on: " + services + "\\nend\\n")
 sys.stderr.write("x" * 3_000_000)
 say(sys.stdin.readline() and "aborted\\n")
 """
-        with session(code) as talk:
-            report = talk.report()
-            self.assertEqual(len(report.services), 200_000)
-            self.assertEqual(report.offers["on"][-1], "s199999")
-            talk.abort()
+    with session(code) as talk:
+        report = talk.report()
+        assert len(report.services) == 200_000
+        assert report.offers["on"][-1] == "s199999"
+        talk.abort()
 
-    def test_replies_in_pieces(self) -> None:
-        code = """
+
+def test_replies_in_pieces() -> None:
+    code = """
 sys.stdin.readline()
 for letter in "offer l1 l2\\n":
     say(letter)
     time.sleep(0.01)
 sys.stdin.readline()
 """
-        with session(code) as talk:
-            self.assertEqual(talk.do("on").services, ("l1", "l2"))
-
-    def test_a_slow_last_reply(self) -> None:
-        with session("sys.stdin.readline(); time.sleep(0.5); say('bye\\n')") as talk:
-            self.assertEqual(talk.quit(), 0)
+    with session(code) as talk:
+        assert talk.do("on").services == ("l1", "l2")
 
 
-if __name__ == "__main__":
-    unittest.main()
+def test_a_slow_last_reply() -> None:
+    with session("sys.stdin.readline(); time.sleep(0.5); say('bye\\n')") as talk:
+        assert talk.quit() == 0

@@ -17,7 +17,7 @@ import pytest
 import roman_client as roman
 from roman_client import NOT_DONE, Call, Device, Did, Dispatcher, Frozen, Session, Verdict, core
 from roman_client.devices import Outcome, Told
-from roman_client.store import Store, reading
+from roman_client.store import Store, open_read_only
 
 from . import PROGRAM, copy_store, sample
 
@@ -77,7 +77,7 @@ class Stores:
         return {name: Home(told, repeatable) for name in self.devices}
 
     def rows(self, query: str, path: Path | None = None) -> list[Any]:
-        with reading(path or self.path) as database:
+        with open_read_only(path or self.path) as database:
             return database.execute(query).fetchall()
 
     def cut_off(self, action: str, *before: str) -> Path:
@@ -405,7 +405,7 @@ def test_a_store_that_is_removed_while_it_is_in_use(stores: Stores, gone: str) -
 
 
 def test_a_reader_is_no_hindrance(stores: Stores) -> None:
-    with stores.dispatcher() as dispatcher, reading(stores.path) as database:
+    with stores.dispatcher() as dispatcher, open_read_only(stores.path) as database:
         database.execute("BEGIN")
         assert database.execute("SELECT served FROM home").fetchall() == [(0,)]
         dispatcher.request("brighten")

@@ -3,14 +3,17 @@
 
 The home is that of the demo, with devices of this process that act at once, answer as their machines may,
 and fail once in a thousand times. Each answer of the home is compared with what the devices did. It says how
-far it is after each tenth, and at the end how long that took, and which share of it the program had.
-SOAK_FOLDER is where the journal is; else that is where other temporary files are.
+far it is after each tenth, and at the end what a request took, and which share of it the program had.
+With `--clients N` so many clients of another process request over HTTP, of a home in which a lamp may be
+switched at any time. With `--in-process` there is no program, but the library that ROMAN_LIBRARY names.
+SOAK_FOLDER is where the store is; else that is where other temporary files are.
 """
 
 from __future__ import annotations
 
 import argparse
 import asyncio
+import contextlib
 import functools
 import logging
 import os
@@ -24,12 +27,62 @@ from pathlib import Path
 import roman_live.recovery
 from roman_client import NOT_DONE, Call, DeviceFailed, Document, NoComposition, aio
 from roman_client.devices import Told
-from roman_live.config import HomeFile
+from roman_live.config import IN_PROCESS, HomeFile
 from roman_live.home import Home
+from roman_live.http_api import Server
 
 TOP = Path(__file__).resolve().parents[3]
 
 FAILURES = 0.001
+
+LAMP = {
+    "name": "lamp",
+    "states": ["off", "on"],
+    "start": "off",
+    "final": ["off", "on"],
+    "steps": [["off", True, "switch", "on"], ["on", True, "switch", "off"]],
+}
+
+LAMPS = {
+    "roman": 1,
+    "environment": {"states": ["e"], "start": "e", "actions": ["switch"], "steps": [["e", "switch", "e"]]},
+    "behaviours": [LAMP],
+    "services": [{"name": name, "behaviour": "lamp"} for name in ("first", "second", "third", "fourth")],
+    "target": {"states": ["t"], "start": "t", "final": ["t"], "steps": [["t", True, "switch", "t"]]},
+}
+"""A system in which the one action is always allowed."""
+
+CLIENTS = """
+import http.client, json, sys, threading
+
+port, requests, clients = map(int, sys.argv[1:])
+body = json.dumps({"action": "switch"})
+left = list(range(requests))
+
+def ask():
+    home = http.client.HTTPConnection("127.0.0.1", port)
+    while left:
+        try:
+            left.pop()
+        except IndexError:
+            return
+        while True:
+            home.request("POST", "/requests", body, {"Content-Type": "application/json"})
+            answer = home.getresponse()
+            answer.read()
+            if answer.status == 200:
+                break
+            refused.append(answer.status)
+
+refused = []
+threads = [threading.Thread(target=ask) for _ in range(clients)]
+for each in threads:
+    each.start()
+for each in threads:
+    each.join()
+print(len(refused))
+"""
+"""A program whose clients request until so many requests were served. It prints how many were refused."""
 
 roman_live.recovery.FIRST_PAUSE = 0.001
 
@@ -111,44 +164,80 @@ async def serve(home: Home, requests: int) -> int:
     return refused
 
 
-def share(who: int) -> float:
-    """The seconds of processor time of this process, or of those that it started and that ended."""
-    used = resource.getrusage(who)
-    return used.ru_utime + used.ru_stime
+async def serve_over_http(home: Home, requests: int, clients: int) -> int:
+    """Has requests served over HTTP; gives how many had no composition until a device was back."""
+    server = Server(home, home.file.page)
+    await server.begin()
+    try:
+        port = server.url.rpartition(":")[2]
+        words = (sys.executable, "-c", CLIENTS, port, str(requests), str(clients))
+        process = await asyncio.create_subprocess_exec(*words, stdout=asyncio.subprocess.PIPE)
+        output, _ = await process.communicate()
+        return int(output)
+    finally:
+        await server.close()
 
 
-async def soak(requests: int, folder: Path) -> list[str]:
-    """Runs the home, and gives what is said at the end."""
-    global WORLD
-    document = Document.load("home.json", TOP / "samples" / "live" / "demo")
-    WORLD = World(document, 1)
+class Shares:
+    """The processor time of the programs of a home, one after the other."""
+
+    def __init__(self, home: Home) -> None:
+        self._home = home
+        self.programs: dict[int, float] = {}
+
+    def look(self) -> None:
+        """Notes the time of the present program, if there is one."""
+        pid = self._home.session.pid
+        if pid != os.getpid():
+            with contextlib.suppress(OSError):
+                used = Path(f"/proc/{pid}/schedstat").read_text(encoding="ascii").split()[0]
+                self.programs[pid] = int(used) / 1e9
+
+    async def watch(self) -> None:
+        """Looks again and again."""
+        while True:
+            self.look()
+            await asyncio.sleep(0.1)
+
+
+def write_home(folder: Path, document: Document, in_process: bool) -> HomeFile:
+    """The file of a home whose devices are those of this module."""
     document.write(folder / "home.json")
-    tables = [f'[devices.{each.name}]\nreach = "python"\ncall = "soak:{each.name}"\n' for each in document.services]
     sys.modules["soak"] = sys.modules[__name__]
+    tables = ""
     for each in document.services:
         globals()[each.name] = device(each.name)
-    journal = '[journal]\npath = "home.journal"\n'
-    policy = '[policy]\nchoose = "round robin"\n'
-    home_file = folder / "home.toml"
-    home_file.write_text(f'document = "home.json"\n{policy}{journal}{"".join(tables)}', encoding="utf-8")
-    home = await Home.start(HomeFile.read(home_file))
-    begun = time.monotonic()
-    pids: set[int | None] = {home.session.pid}
-    watching = asyncio.ensure_future(watch(home, pids))
+        tables += f'[devices.{each.name}]\nreach = "python"\ncall = "soak:{each.name}"\nquick = true\n'
+    program = f'program = "{IN_PROCESS}"\n' if in_process else ""
+    rest = '[page]\nport = 0\n[policy]\nchoose = "round robin"\n[journal]\npath = "home.db"\n'
+    (folder / "home.toml").write_text(f'document = "home.json"\n{program}{rest}{tables}', encoding="utf-8")
+    return HomeFile.read(folder / "home.toml")
+
+
+async def soak(requests: int, clients: int, in_process: bool, folder: Path) -> list[str]:
+    """Runs the home, and gives what is said at the end."""
+    global WORLD
+    document = Document(LAMPS) if clients else Document.load("home.json", TOP / "samples" / "live" / "demo")
+    WORLD = World(document, 1)
+    home = await Home.start(write_home(folder, document, in_process))
+    shares = Shares(home)
+    watching = asyncio.ensure_future(shares.watch())
     try:
-        refused = await serve(home, requests)
-        seconds = time.monotonic() - begun
-        count = (await home.shown.state())["counts"]["served"]
+        begun, used = time.monotonic(), time.process_time()
+        refused = await (serve_over_http(home, requests, clients) if clients else serve(home, requests))
+        seconds, rest = time.monotonic() - begun, time.process_time() - used
+        count = (await home.view.state())["counts"]["served"]
         if (count, WORLD.acted) != (requests, requests):
             raise AssertionError(f"{requests} requests, {count} counted, {WORLD.acted} carried out")
     finally:
+        shares.look()
         watching.cancel()
         await home.close()
-    program, rest = share(resource.RUSAGE_CHILDREN), share(resource.RUSAGE_SELF)
+    program = sum(shares.programs.values())
     peak = resource.getrusage(resource.RUSAGE_SELF).ru_maxrss // 1024
     return [
         f"{requests:,} requests in {seconds:,.0f} s, {requests / seconds:,.0f} a second",
-        f"{len(pids)} programs, one after the other",
+        f"{len(shares.programs)} programs, one after the other",
         f"{WORLD.failed:,} failures; {refused:,} times there was no composition until a device was back",
         f"processor time: program {program:,.0f} s, {program / requests * 1e6:,.0f} microseconds a request; "
         f"the rest {rest:,.0f} s, {rest / requests * 1e6:,.0f} microseconds a request",
@@ -156,20 +245,15 @@ async def soak(requests: int, folder: Path) -> list[str]:
     ]
 
 
-async def watch(home: Home, pids: set[int | None]) -> None:
-    """Notes which programs there are."""
-    while True:
-        await asyncio.sleep(0.1)
-        pids.add(home.session.pid)
-
-
 def main() -> int:
     words = argparse.ArgumentParser(description=__doc__)
     words.add_argument("requests", type=int, nargs="?", default=1_000_000)
+    words.add_argument("--clients", type=int, default=0)
+    words.add_argument("--in-process", action="store_true")
     given = words.parse_args()
     logging.disable(logging.CRITICAL)
     with tempfile.TemporaryDirectory(prefix="roman-soak-", dir=os.environ.get("SOAK_FOLDER")) as folder:
-        print(*asyncio.run(soak(given.requests, Path(folder))), sep="\n")
+        print(*asyncio.run(soak(given.requests, given.clients, given.in_process, Path(folder))), sep="\n")
     return 0
 
 

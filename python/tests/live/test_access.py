@@ -14,7 +14,6 @@ from roman_live.config import HomeFile, HomeFileError
 from roman_live.limits import Bucket
 
 from .test_load import Client, Served
-from .test_requests import run
 
 OPERATE = "7c1f0e5b9a3d4826b7e2c9f81d60a435"
 WATCH = "correct-horse-battery-staple-7"
@@ -36,86 +35,74 @@ async def post(client: Client, path: str, body: str, head: str, kind: str = "app
 
 
 @pytest.mark.parametrize(("token", "role"), [(OPERATE, Role.OPERATE), (WATCH, Role.WATCH), ("x", None), ("", None)])
-def test_what_a_token_allows(tmp_path: Path, token: str, role: Role | None) -> None:
+async def test_what_a_token_allows(tmp_path: Path, token: str, role: Role | None) -> None:
     write_tokens(tmp_path)
 
-    async def test() -> None:
-        async with Served.begin(tmp_path, TABLE) as served:
-            head = f"Authorization: Bearer {token}\r\n"
-            for path in ("/", "/state", "/metrics"):
-                assert (await (await served.client()).get(path, head=head))[0] == (401 if role is None else 200)
-            body = json.dumps({"action": "brighten"})
-            status, _ = await post(await served.client(), "/requests", body, head)
-            assert status == {Role.OPERATE: 200, Role.WATCH: 403, None: 401}[role]
-            status, _ = await post(await served.client(), "/services/window/freeze", "{}", head)
-            assert status == {Role.OPERATE: 200, Role.WATCH: 403, None: 401}[role]
-            status, _ = await (await served.client()).get("/requests/k", "DELETE", head)
-            assert status == {Role.OPERATE: 404, Role.WATCH: 403, None: 401}[role]
-            assert len(served.devices["window"].calls) == (role is Role.OPERATE)
-
-    run(test())
+    async with Served.begin(tmp_path, TABLE) as served:
+        head = f"Authorization: Bearer {token}\r\n"
+        for path in ("/", "/state", "/metrics", "/history"):
+            assert (await (await served.client()).get(path, head=head))[0] == (401 if role is None else 200)
+        body = json.dumps({"action": "brighten"})
+        status, _ = await post(await served.client(), "/requests", body, head)
+        assert status == {Role.OPERATE: 200, Role.WATCH: 403, None: 401}[role]
+        status, _ = await post(await served.client(), "/services/window/freeze", "{}", head)
+        assert status == {Role.OPERATE: 200, Role.WATCH: 403, None: 401}[role]
+        status, _ = await (await served.client()).get("/requests/k", "DELETE", head)
+        assert status == {Role.OPERATE: 404, Role.WATCH: 403, None: 401}[role]
+        assert len(served.devices["window"].calls) == (role is Role.OPERATE)
 
 
-def test_a_page_that_may_only_watch_has_no_buttons(tmp_path: Path) -> None:
+async def test_a_page_that_may_only_watch_has_no_buttons(tmp_path: Path) -> None:
     write_tokens(tmp_path)
 
-    async def test() -> None:
-        async with Served.begin(tmp_path, TABLE) as served:
-            for token, body in ((OPERATE, "<body>"), (WATCH, '<body class="watch">')):
-                page = (await (await served.client()).get("/", head=f"Cookie: roman_live_token={token}\r\n"))[1]
-                assert body in page
-
-    run(test())
+    async with Served.begin(tmp_path, TABLE) as served:
+        for token, body in ((OPERATE, "<body>"), (WATCH, '<body class="watch">')):
+            page = (await (await served.client()).get("/", head=f"Cookie: roman_live_token={token}\r\n"))[1]
+            assert body in page
 
 
-def test_a_token_is_entered_on_a_page(tmp_path: Path) -> None:
+async def test_a_token_is_entered_on_a_page(tmp_path: Path) -> None:
     write_tokens(tmp_path)
 
-    async def test() -> None:
-        async with Served.begin(tmp_path, TABLE) as served:
-            browser = "Accept: text/html,*/*\r\n"
-            status, page = await (await served.client()).get("/", head=browser)
-            assert status == 401
-            assert '<form method="post" action="login">' in page
-            kind = "application/x-www-form-urlencoded"
-            client = await served.client()
-            status, _ = await post(client, "/login", urlencode({"token": "x"}), browser, kind)
-            assert status == 401
-            assert b"this isn&#x27;t the token" in await client.reader.read()
-            foreign = f"{browser}Origin: http://evil.example\r\n"
-            status, _ = await post(await served.client(), "/login", urlencode({"token": OPERATE}), foreign, kind)
-            assert status == 403
-            status, head = await post(await served.client(), "/login", urlencode({"token": OPERATE}), browser, kind)
-            assert status == 303
-            assert "Location: /\r\n" in head
-            cookie = head.partition("Set-Cookie: ")[2].partition(";")[0]
-            assert (await (await served.client()).get("/state", head=f"Cookie: {cookie}\r\n"))[0] == 200
-
-    run(test())
+    async with Served.begin(tmp_path, TABLE) as served:
+        browser = "Accept: text/html,*/*\r\n"
+        status, page = await (await served.client()).get("/", head=browser)
+        assert status == 401
+        assert '<form method="post" action="login">' in page
+        kind = "application/x-www-form-urlencoded"
+        client = await served.client()
+        status, _ = await post(client, "/login", urlencode({"token": "x"}), browser, kind)
+        assert status == 401
+        assert b"this isn&#x27;t the token" in await client.reader.read()
+        foreign = f"{browser}Origin: http://evil.example\r\n"
+        status, _ = await post(await served.client(), "/login", urlencode({"token": OPERATE}), foreign, kind)
+        assert status == 403
+        status, head = await post(await served.client(), "/login", urlencode({"token": OPERATE}), browser, kind)
+        assert status == 303
+        assert "Location: /\r\n" in head
+        cookie = head.partition("Set-Cookie: ")[2].partition(";")[0]
+        assert (await (await served.client()).get("/state", head=f"Cookie: {cookie}\r\n"))[0] == 200
 
 
-def test_guessing_is_slowed(tmp_path: Path, monkeypatch: pytest.MonkeyPatch) -> None:
+async def test_guessing_is_slowed(tmp_path: Path, monkeypatch: pytest.MonkeyPatch) -> None:
     write_tokens(tmp_path)
     time = [0.0]
     monkeypatch.setattr(access, "Bucket", lambda burst, rate: Bucket(burst, rate, lambda: time[0]))
 
-    async def test() -> None:
-        async with Served.begin(tmp_path, TABLE) as served:
+    async with Served.begin(tmp_path, TABLE) as served:
 
-            async def status(token: str) -> int:
-                client = await served.client()
-                return (await client.get("/state", head=f"Authorization: Bearer {token}\r\n"))[0]
+        async def status(token: str) -> int:
+            client = await served.client()
+            return (await client.get("/state", head=f"Authorization: Bearer {token}\r\n"))[0]
 
-            assert [await status(f"guess {number}") for number in range(12)] == [401] * 10 + [429] * 2
-            # It isn't known by the answer whether this one is right.
-            assert await status(OPERATE) == 429
-            time[0] = 5.0
-            assert await status(OPERATE) == 200
-            # One that a browser keeps is no guess.
-            assert [await status("guess 1") for _ in range(30)] == [401] * 30
-            assert await status(OPERATE) == 200
-
-    run(test())
+        assert [await status(f"guess {number}") for number in range(12)] == [401] * 10 + [429] * 2
+        # It isn't known by the answer whether this one is right.
+        assert await status(OPERATE) == 429
+        time[0] = 5.0
+        assert await status(OPERATE) == 200
+        # One that a browser keeps is no guess.
+        assert [await status("guess 1") for _ in range(30)] == [401] * 30
+        assert await status(OPERATE) == 200
 
 
 def test_guesses_are_counted_by_address() -> None:

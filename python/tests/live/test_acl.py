@@ -22,7 +22,7 @@ TOPICS = {"roman/requests", "roman/environment", "roman/answers", "roman/state",
 TOPICS |= {f"home/{name}/{what}" for name in ("window", "kettle") for what in ("ask", "answer")}
 
 WRITES: dict[str, set[str]] = {
-    "roman-live": {"roman/answers", "roman/state", "home/window/ask", "home/kettle/ask"},
+    "roman-live": {"roman/requests", "roman/answers", "roman/state", "home/window/ask", "home/kettle/ask"},
     "panel": {"roman/requests"},
     "watcher": set(),
     "sensor": {"roman/environment"},

@@ -11,11 +11,12 @@ import subprocess
 import sys
 import threading
 import time
-import unittest
+from contextlib import AsyncExitStack
 from typing import Any
 
 import paho.mqtt.client as mqtt  # type: ignore[import]
-import paho.mqtt.publish as publish  # type: ignore[import]
+import paho.mqtt.publish as messages  # type: ignore[import]
+import pytest
 
 from . import DEMO, ROMAN_LIVE, TOP
 from .browser import Demonstrated, Running, wait_until
@@ -32,38 +33,39 @@ def block(language: str, word: str = "") -> str:
     return str(re.sub(f"^{indent}", "", text, flags=re.M))
 
 
-class Messages(unittest.TestCase):
-    def test_the_commands_request_and_make_it_dusk(self) -> None:
-        home = Demonstrated()
-        self.addCleanup(home.close)
-        home.begin(0)
-        answers = Answers(home.broker)
-        self.addCleanup(answers.close)
-        commands = [shlex.split(command) for command in block("sh", "mosquitto_pub").splitlines()]
-        self.assertEqual(len(commands), 2)
-        for words in commands:
-            self.assertEqual(words[:3], ["mosquitto_pub", "-p", "18830"])
-            topic, message = words[words.index("-t") + 1], words[words.index("-m") + 1]
-            self.publish(home, topic, message)
-            if topic == "demo/requests":
-                wait_until(lambda: answers.heard or self.publish(home, topic, message), "an answer")
-        answer = answers.heard[0]
-        self.assertEqual((answer["id"], answer["status"], answer["action"]), (1, 200, "brighten"))
-        wait_until(lambda: home.state()["environment"] == "dusk", "dusk")
+def test_the_commands_request_and_make_it_dusk(at_end: AsyncExitStack) -> None:
+    home = Demonstrated()
+    at_end.callback(home.close)
+    home.begin(0)
+    answers = Answers(home.broker)
+    at_end.callback(answers.close)
+    commands = [shlex.split(command) for command in block("sh", "mosquitto_pub").splitlines()]
+    assert len(commands) == 2
+    for words in commands:
+        assert words[:3] == ["mosquitto_pub", "-p", "18830"]
+        topic, message = words[words.index("-t") + 1], words[words.index("-m") + 1]
+        publish(home, topic, message)
+        if topic == "demo/requests":
+            wait_until(lambda: answers.heard or publish(home, topic, message), "an answer")
+    answer = answers.heard[0]
+    assert (answer["id"], answer["status"], answer["action"]) == (1, 200, "brighten")
+    wait_until(lambda: home.state()["environment"] == "dusk", "dusk")
 
-    def test_all_ends_where_the_terminal_is_closed(self) -> None:
-        home = Demonstrated()
-        self.addCleanup(home.close)
-        home.begin(0)
-        home.end(signal.SIGHUP)
-        with self.assertRaises(ConnectionRefusedError):
-            publish.single("demo/requests", "", hostname="127.0.0.1", port=home.broker)
 
-    def publish(self, home: Demonstrated, topic: str, message: str) -> bool:
-        """Publishes a message, and waits a little: nobody may listen yet. Gives False: it isn't answered."""
-        publish.single(topic, message, qos=1, hostname="127.0.0.1", port=home.broker)
-        time.sleep(1)
-        return False
+def test_all_ends_where_the_terminal_is_closed(at_end: AsyncExitStack) -> None:
+    home = Demonstrated()
+    at_end.callback(home.close)
+    home.begin(0)
+    home.end(signal.SIGHUP)
+    with pytest.raises(ConnectionRefusedError):
+        messages.single("demo/requests", "", hostname="127.0.0.1", port=home.broker)
+
+
+def publish(home: Demonstrated, topic: str, message: str) -> bool:
+    """Publishes a message, and waits a little: nobody may listen yet. Gives False: it isn't answered."""
+    messages.single(topic, message, qos=1, hostname="127.0.0.1", port=home.broker)
+    time.sleep(1)
+    return False
 
 
 def threads(process: int) -> int:
@@ -71,47 +73,47 @@ def threads(process: int) -> int:
     return len(os.listdir(f"/proc/{process}/task"))
 
 
-class Kettle(unittest.TestCase):
-    def test_it_tells_nothing_while_it_acts(self) -> None:
-        """Else a home that was killed and begins again would have it act twice."""
-        port = free_port()
-        url = f"http://127.0.0.1:{port}/kettle"
-        seconds = {"DEMO_SECONDS": "2", "DEMO_FAILURES": "0"}
-        words = [sys.executable, str(DEMO / "kettle.py"), str(port)]
-        with subprocess.Popen(words, env={**os.environ, **seconds}) as kettle:
-            self.addCleanup(kettle.kill)
-            until(lambda: call(url), "the kettle", (OSError,))
-            boils = threading.Thread(target=call, args=(url, {"id": 7, "action": "boil"}))
-            until(lambda: threads(kettle.pid) == 1, "the end of the first call")
-            boils.start()
-            until(lambda: threads(kettle.pid) == 2, "the call")
-            _, told = call(f"{url}?id=7")
-            boils.join()
-            kettle.kill()
-        self.assertTrue(told["done"])
-        self.assertIn(told["state"], ("warm", "hot"))
+def test_it_tells_nothing_while_it_acts(at_end: AsyncExitStack) -> None:
+    """Else a home that was killed and begins again would have it act twice."""
+    port = free_port()
+    url = f"http://127.0.0.1:{port}/kettle"
+    seconds = {"DEMO_SECONDS": "2", "DEMO_FAILURES": "0"}
+    words = [sys.executable, str(DEMO / "kettle.py"), str(port)]
+    with subprocess.Popen(words, env={**os.environ, **seconds}) as kettle:
+        at_end.callback(kettle.kill)
+        until(lambda: call(url), "the kettle", (OSError,))
+        boils = threading.Thread(target=call, args=(url, {"id": 7, "action": "boil"}))
+        until(lambda: threads(kettle.pid) == 1, "the end of the first call")
+        boils.start()
+        until(lambda: threads(kettle.pid) == 2, "the call")
+        _, told = call(f"{url}?id=7")
+        boils.join()
+        kettle.kill()
+    assert told["done"]
+    assert told["state"] in ("warm", "hot")
 
 
-class OwnDevice(unittest.TestCase):
-    def porch(self, script: str, more: str = "") -> Porch:
-        """A home with a script as the lamp at the porch, which served."""
-        home = Porch(free_port(), script, more)
-        self.addCleanup(home.close)
-        home.begin()
-        answer = home.post("requests", {"action": "brighten"})
-        self.assertEqual((answer["served_by"], answer["state"]), ("porch", "on"))
-        return home
+def porch(at_end: AsyncExitStack, script: str, more: str = "") -> Porch:
+    """A home with a script as the lamp at the porch, which served."""
+    home = Porch(free_port(), script, more)
+    at_end.callback(home.close)
+    home.begin()
+    answer = home.post("requests", {"action": "brighten"})
+    assert (answer["served_by"], answer["state"]) == ("porch", "on")
+    return home
 
-    def test_the_porch_serves(self) -> None:
-        home = self.porch(block("", "#!/"))
-        self.assertEqual((home.folder / "porch.state").read_text(), "on\n")
 
-    def test_the_kept_lamp_serves(self) -> None:
-        home = self.porch(block("py"), "lines = true\nnumbered = true\n")
-        for action in ("boil", "pour", "dim", "brighten"):
-            home.post("requests", {"action": action})
-        (porch,) = (each for each in home.state()["services"] if each["name"] == "porch")
-        self.assertEqual((porch["status"], porch["state"], porch["last_error"]), ("ready", "on", None))
+def test_the_porch_serves(at_end: AsyncExitStack) -> None:
+    home = porch(at_end, block("", "#!/"))
+    assert (home.folder / "porch.state").read_text() == "on\n"
+
+
+def test_the_kept_lamp_serves(at_end: AsyncExitStack) -> None:
+    home = porch(at_end, block("py"), "lines = true\nnumbered = true\n")
+    for action in ("boil", "pour", "dim", "brighten"):
+        home.post("requests", {"action": action})
+    (found,) = (each for each in home.state()["services"] if each["name"] == "porch")
+    assert (found["status"], found["state"], found["last_error"]) == ("ready", "on", None)
 
 
 class Porch(Running):
@@ -157,7 +159,3 @@ class Answers:
     def close(self) -> None:
         self._client.disconnect()
         self._client.loop_stop()
-
-
-if __name__ == "__main__":
-    unittest.main()

@@ -4,16 +4,17 @@ from __future__ import annotations
 
 import asyncio
 import sys
-import tempfile
-import unittest
 from collections.abc import Callable
+from contextlib import AsyncExitStack
 from pathlib import Path
 from typing import Any
+
+import pytest
 
 from roman_client import Call, DeviceFailed
 from roman_live.config import CommandReach
 from roman_live.devices import Answer
-from roman_live.devices.command import KeptCommand
+from roman_live.devices.command import LineCommand
 from roman_live.processes import Processes
 
 from .machinery import PATIENCE
@@ -66,21 +67,16 @@ class Heard:
         self.texts.append(text)
 
 
-class Kept(unittest.IsolatedAsyncioTestCase):
-    """One whose lines have no numbers. Its answer to an action is that action, and its process."""
+class Kept:
+    """A command, whose lines may have numbers. Its answer to an action is that action, and its process."""
 
-    numbered = False
-
-    async def asyncSetUp(self) -> None:
-        asyncio.get_running_loop().slow_callback_duration = 60
-        folder = tempfile.TemporaryDirectory()
-        self.addCleanup(folder.cleanup)
-        self.folder = Path(folder.name)
+    def __init__(self, folder: Path, at_end: AsyncExitStack, numbered: bool) -> None:
+        self.folder = folder
         (self.folder / "device.py").write_text(DEVICE, encoding="utf-8")
-        entry = CommandReach((sys.executable, "device.py"), True, self.folder, self.numbered)
+        entry = CommandReach((sys.executable, "device.py"), True, self.folder, numbered)
         self.heard = Heard()
-        self.device = KeptCommand("window", self.heard, entry, Processes(self.folder / "commands"), None)
-        self.addAsyncCleanup(self.device.close)
+        self.device = LineCommand("window", self.heard, entry, Processes(self.folder / "commands"), None)
+        at_end.push_async_callback(self.device.close)
         self.calls = 0
 
     async def ask(self, action: str) -> tuple[str, str]:
@@ -93,7 +89,7 @@ class Kept(unittest.IsolatedAsyncioTestCase):
     async def tell(self) -> str:
         answer = await self.device.tell(None)
         assert answer is not None and answer.environment is not None
-        self.assertEqual(answer.state, "here")
+        assert answer.state == "here"
         return answer.environment
 
     async def until(self, holds: Callable[[], Any]) -> None:
@@ -108,102 +104,119 @@ class Kept(unittest.IsolatedAsyncioTestCase):
         task = asyncio.ensure_future(work)
         await self.until((self.folder / f"heard-{word}").exists)
         task.cancel()
-        with self.assertRaises(asyncio.CancelledError):
+        with pytest.raises(asyncio.CancelledError):
             await task
 
     async def refused(self, action: str, text: str) -> None:
-        with self.assertRaisesRegex(DeviceFailed, text):
+        with pytest.raises(DeviceFailed, match=text):
             await self.ask(action)
 
-    async def test_it_is_kept(self) -> None:
-        state, process = await self.ask("open")
-        self.assertEqual(state, "open")
-        self.assertEqual(await self.ask("shut"), ("shut", process))
-        self.assertEqual(await self.tell(), process)
-        self.assertEqual(self.heard.texts, [])
 
-    async def test_a_late_answer(self) -> None:
-        _, process = await self.ask("open")
-        await self.give_up(self.ask("slow"), "slow")
-        (self.folder / "go").touch()
-        state, other = await self.ask("shut")
-        self.assertEqual(state, "shut")
-        self.assertNotEqual(other, process)
-        self.assertEqual(self.heard.texts, [])
-
-    async def test_an_answer_that_comes_twice(self) -> None:
-        state, process = await self.ask("twice")
-        self.assertEqual(state, "twice")
-        await self.until(lambda: self.heard.texts)
-        self.assertIn("which nobody asked for", self.heard.texts[0])
-        state, other = await self.ask("shut")
-        self.assertEqual(state, "shut")
-        self.assertNotEqual(other, process)
-
-    async def test_one_that_is_wrong_is_started_again(self) -> None:
-        _, process = await self.ask("open")
-        for action, text in (
-            ("nonsense", "not a line with its state"),
-            ("ends", "ended in place of an answer"),
-            ("long", "more than 65536 bytes"),
-        ):
-            with self.subTest(action):
-                await self.refused(action, text)
-                state, other = await self.ask("shut")
-                self.assertEqual(state, "shut")
-                self.assertNotEqual(other, process)
-
-    async def test_one_that_does_not_tell_is_started_again(self) -> None:
-        _, process = await self.ask("open")
-        (self.folder / "mute").touch()
-        await self.give_up(self.tell(), "?")
-        (self.folder / "mute").unlink()
-        self.assertNotEqual(await self.tell(), process)
-
-    async def test_one_who_waits_for_his_turn_ends_nothing(self) -> None:
-        _, process = await self.ask("open")
-        first = asyncio.ensure_future(self.ask("slow"))
-        await self.until((self.folder / "heard-slow").exists)
-        second = asyncio.ensure_future(self.tell())
-        await asyncio.sleep(0)
-        second.cancel()
-        (self.folder / "go").touch()
-        self.assertEqual(await first, ("slow", process))
+@pytest.fixture
+def plain(tmp_path: Path, at_end: AsyncExitStack) -> Kept:
+    return Kept(tmp_path, at_end, False)
 
 
-class Numbered(Kept):
-    """One whose lines have numbers."""
-
-    numbered = True
-
-    async def test_a_late_answer(self) -> None:
-        _, process = await self.ask("open")
-        await self.give_up(self.ask("slow"), "slow")
-        self.assertEqual(self.heard.texts, [])
-        (self.folder / "go").touch()
-        self.assertEqual(await self.ask("shut"), ("shut", process))
-        self.assertEqual(self.heard.texts, ["answered to 2, which nobody waits for"])
-
-    async def test_an_answer_that_comes_twice(self) -> None:
-        state, process = await self.ask("twice")
-        self.assertEqual(state, "twice")
-        self.assertEqual(await self.ask("shut"), ("shut", process))
-        self.assertEqual(self.heard.texts, ["answered to 1, which nobody waits for"])
-
-    async def test_one_that_is_wrong_is_started_again(self) -> None:
-        _, process = await self.ask("open")
-        await self.refused("nonsense", "not a line with its state")
-        self.assertEqual(await self.ask("shut"), ("shut", process))
-        await self.refused("nobody's", "begins with no number")
-        state, other = await self.ask("shut")
-        self.assertEqual(state, "shut")
-        self.assertNotEqual(other, process)
-
-    async def test_it_moves_by_itself(self) -> None:
-        state, _ = await self.ask("unasked")
-        self.assertEqual(state, "unasked")
-        self.assertEqual(self.heard.places, [("window", Answer("ajar", "day"))])
+@pytest.fixture
+def numbered(tmp_path: Path, at_end: AsyncExitStack) -> Kept:
+    return Kept(tmp_path, at_end, True)
 
 
-if __name__ == "__main__":
-    unittest.main()
+@pytest.fixture(params=[False, True], ids=["plain", "numbered"])
+def kept(tmp_path: Path, at_end: AsyncExitStack, request: pytest.FixtureRequest) -> Kept:
+    return Kept(tmp_path, at_end, request.param)
+
+
+async def test_it_is_kept(kept: Kept) -> None:
+    state, process = await kept.ask("open")
+    assert state == "open"
+    assert (await kept.ask("shut")) == ("shut", process)
+    assert (await kept.tell()) == process
+    assert kept.heard.texts == []
+
+
+async def test_a_late_answer(plain: Kept) -> None:
+    _, process = await plain.ask("open")
+    await plain.give_up(plain.ask("slow"), "slow")
+    (plain.folder / "go").touch()
+    state, other = await plain.ask("shut")
+    assert state == "shut"
+    assert other != process
+    assert plain.heard.texts == []
+
+
+async def test_an_answer_that_comes_twice(plain: Kept) -> None:
+    state, process = await plain.ask("twice")
+    assert state == "twice"
+    await plain.until(lambda: plain.heard.texts)
+    assert "which nobody asked for" in plain.heard.texts[0]
+    state, other = await plain.ask("shut")
+    assert state == "shut"
+    assert other != process
+
+
+async def test_one_that_is_wrong_is_started_again(plain: Kept) -> None:
+    _, process = await plain.ask("open")
+    for action, text in (
+        ("nonsense", "not a line with its state"),
+        ("ends", "ended in place of an answer"),
+        ("long", "more than 65536 bytes"),
+    ):
+        await plain.refused(action, text)
+        state, other = await plain.ask("shut")
+        assert state == "shut"
+        assert other != process
+
+
+async def test_one_that_does_not_tell_is_started_again(kept: Kept) -> None:
+    _, process = await kept.ask("open")
+    (kept.folder / "mute").touch()
+    await kept.give_up(kept.tell(), "?")
+    (kept.folder / "mute").unlink()
+    assert (await kept.tell()) != process
+
+
+async def test_one_who_waits_for_his_turn_ends_nothing(kept: Kept) -> None:
+    _, process = await kept.ask("open")
+    first = asyncio.ensure_future(kept.ask("slow"))
+    await kept.until((kept.folder / "heard-slow").exists)
+    second = asyncio.ensure_future(kept.tell())
+    await asyncio.sleep(0)
+    second.cancel()
+    (kept.folder / "go").touch()
+    assert (await first) == ("slow", process)
+
+
+# One whose lines have numbers.
+
+
+async def test_a_late_answer_by_its_number(numbered: Kept) -> None:
+    _, process = await numbered.ask("open")
+    await numbered.give_up(numbered.ask("slow"), "slow")
+    assert numbered.heard.texts == []
+    (numbered.folder / "go").touch()
+    assert (await numbered.ask("shut")) == ("shut", process)
+    assert numbered.heard.texts == ["answered to 2, which nobody waits for"]
+
+
+async def test_an_answer_that_comes_twice_by_its_number(numbered: Kept) -> None:
+    state, process = await numbered.ask("twice")
+    assert state == "twice"
+    assert (await numbered.ask("shut")) == ("shut", process)
+    assert numbered.heard.texts == ["answered to 1, which nobody waits for"]
+
+
+async def test_one_that_writes_wrong_numbers_is_started_again(numbered: Kept) -> None:
+    _, process = await numbered.ask("open")
+    await numbered.refused("nonsense", "not a line with its state")
+    assert (await numbered.ask("shut")) == ("shut", process)
+    await numbered.refused("nobody's", "begins with no number")
+    state, other = await numbered.ask("shut")
+    assert state == "shut"
+    assert other != process
+
+
+async def test_it_moves_by_itself(numbered: Kept) -> None:
+    state, _ = await numbered.ask("unasked")
+    assert state == "unasked"
+    assert numbered.heard.places == [("window", Answer("ajar", "day"))]

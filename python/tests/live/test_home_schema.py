@@ -15,7 +15,7 @@ from jsonschema import Draft7Validator  # type: ignore[import]
 from roman_live.config import HomeFile, HomeFileError
 
 from . import TOP
-from .test_homefile import GOOD, TOKEN, WRONG
+from .test_config import GOOD, TOKEN, WRONG
 
 SCHEMA = Draft7Validator(json.loads((TOP / "schema" / "home.schema.json").read_text(encoding="utf-8")))
 HOMES = [tomllib.loads(GOOD), {"document": "h", "mqtt": {"tls": {}}, "devices": {}}]

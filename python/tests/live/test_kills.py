@@ -27,9 +27,6 @@ from .test_devices import CYCLE
 from .world import HttpDevices, MqttDevices, World
 
 KILLS = int(os.environ.get("ROMAN_LIVE_KILLS", "100"))
-FAILED = 3
-"""The status of a home that couldn't begin, and is started again."""
-
 MOST_REQUESTS = 6
 """The most requests between two kills."""
 
@@ -93,14 +90,12 @@ class Person:
 
     def reach(self, count: int) -> None:
         """Waits until so many requests are served."""
-        until(lambda: self.is_up() and (self.asked >= count or self.strange), f"request {count}")
+        until(lambda: self.runs() and (self.asked >= count or self.strange), f"request {count}")
 
-    def is_up(self) -> bool:
-        """Whether the home runs. It is started again, as systemd does, if it couldn't begin since its program was
-        killed just then."""
-        if self.live.process.poll() == FAILED:
-            self.live.start(wait=False)
-        return self.live.process.poll() is None
+    def runs(self) -> bool:
+        """Checks that the home hasn't ended by itself."""
+        assert self.live.process.poll() is None, self.live.text()
+        return True
 
 
 class Killer:
@@ -190,7 +185,7 @@ def test_whatever_is_killed_each_request_is_served_once(live: Live, world: World
             person.reach(person.limit - chance.randrange(count + 1))
             killer.kill()
         person.reach(person.limit)
-        until(lambda: person.is_up() and live.answers(), "its page")
+        until(live.answers, "its page")
     finally:
         person.ending.set()
     assert (person.strange, world.wrong) == ("", [])

@@ -19,10 +19,11 @@ from urllib.parse import urlsplit
 import pytest
 
 from roman_client import DeviceFailed
-from roman_live import fleet, limits, moves, pictures, requests
+from roman_client.store import Store
+from roman_live import events, fleet, http_api, limits, moves, pictures, requests
 from roman_live.config import Broker, HomeFile
 from roman_live.devices import Answer
-from roman_live.errors import Crowded, NoRoom
+from roman_live.errors import NoSpace, TooManyRequests
 from roman_live.home import Home
 from roman_live.http_api import Server
 from roman_live.log import OnceAMinute
@@ -33,7 +34,6 @@ from roman_live.pictures import Picture
 from . import sample
 from .machinery import PATIENCE, Live
 from .played import START, Played, Playhouse
-from .test_requests import run
 
 EMPTY_PAGE = "[page]\nport = 0\n"
 
@@ -99,38 +99,32 @@ class Served:
         return await Client.connect(self.server)
 
 
-def test_silent_connections_make_room(tmp_path: Path) -> None:
-    async def test() -> None:
-        async with Served.begin(tmp_path, "[limits]\nconnections = 8\n") as served:
-            used = await served.client()
-            assert (await used.get("/state"))[0] == 200
-            silent = [await served.client() for _ in range(20)]
-            for each in silent[:12]:
-                await each.ended()
-            # Neither one that has made a request nor a new one is shut out.
-            assert (await used.get("/state"))[0] == 200
-            assert (await (await served.client()).get("/state"))[0] == 200
-
-    run(test())
+async def test_silent_connections_make_room(tmp_path: Path) -> None:
+    async with Served.begin(tmp_path, "[limits]\nconnections = 8\n") as served:
+        used = await served.client()
+        assert (await used.get("/state"))[0] == 200
+        silent = [await served.client() for _ in range(20)]
+        for each in silent[:12]:
+            await each.ended()
+        # Neither one that has made a request nor a new one is shut out.
+        assert (await used.get("/state"))[0] == 200
+        assert (await (await served.client()).get("/state"))[0] == 200
 
 
-def test_connections_that_wait_for_an_answer_stay(tmp_path: Path) -> None:
-    async def test() -> None:
-        async with Served.begin(tmp_path, "[limits]\nconnections = 8\n") as served:
-            window = served.devices["window"]
-            window.gate.clear()
-            clients = [await served.client() for _ in range(8)]
-            body = json.dumps({"action": "brighten", "key": "k"})
-            head = "Host: localhost\r\nContent-Type: application/json\r\nContent-Length"
-            for each in clients:
-                each.send(f"POST /requests HTTP/1.1\r\n{head}: {len(body)}\r\n\r\n{body}")
-            while served.home.requests.open < len(clients):
-                await asyncio.sleep(0)
-            await (await served.client()).ended()
-            window.gate.set()
-            assert [(await each.head())[0] for each in clients] == [200] * 8
-
-    run(test())
+async def test_connections_that_wait_for_an_answer_stay(tmp_path: Path) -> None:
+    async with Served.begin(tmp_path, "[limits]\nconnections = 8\n") as served:
+        window = served.devices["window"]
+        window.gate.clear()
+        clients = [await served.client() for _ in range(8)]
+        body = json.dumps({"action": "brighten", "key": "k"})
+        head = "Host: localhost\r\nContent-Type: application/json\r\nContent-Length"
+        for each in clients:
+            each.send(f"POST /requests HTTP/1.1\r\n{head}: {len(body)}\r\n\r\n{body}")
+        while served.home.requests.open < len(clients):
+            await asyncio.sleep(0)
+        await (await served.client()).ended()
+        window.gate.set()
+        assert [(await each.head())[0] for each in clients] == [200] * 8
 
 
 @pytest.mark.parametrize(
@@ -142,43 +136,34 @@ def test_connections_that_wait_for_an_answer_stay(tmp_path: Path) -> None:
         "POST /requests HTTP/1.1\r\nHost: localhost\r\nContent-Type: application/json\r\nContent-Length: 9\r\n\r\n{",
     ],
 )
-def test_a_part_of_a_request_is_not_waited_for(tmp_path: Path, part: str) -> None:
-    async def test() -> None:
-        async with Served.begin(tmp_path, "[limits]\nsilence = 0.05\n") as served:
-            client = await served.client()
-            client.send(part)
-            await client.ended()
-
-    run(test())
+async def test_a_part_of_a_request_is_not_waited_for(tmp_path: Path, part: str) -> None:
+    async with Served.begin(tmp_path, "[limits]\nsilence = 0.05\n") as served:
+        client = await served.client()
+        client.send(part)
+        await client.ended()
 
 
-def test_a_head_without_end(tmp_path: Path) -> None:
-    async def test() -> None:
-        async with Served.begin(tmp_path) as served:
-            client = await served.client()
-            client.send("GET /state HTTP/1.1\r\n")
-            with contextlib.suppress(ConnectionError):
-                while not client.reader.at_eof():
-                    client.send("X: y\r\n" * 1000)
-                    await client.writer.drain()
-            await client.ended()
-
-    run(test())
+async def test_a_head_without_end(tmp_path: Path) -> None:
+    async with Served.begin(tmp_path) as served:
+        client = await served.client()
+        client.send("GET /state HTTP/1.1\r\n")
+        with contextlib.suppress(ConnectionError):
+            while not client.reader.at_eof():
+                client.send("X: y\r\n" * 1000)
+                await client.writer.drain()
+        await client.ended()
 
 
-def test_too_many_requests_wait(tmp_path: Path) -> None:
-    async def test() -> None:
-        async with Served.begin(tmp_path, "[limits]\nwaiting = 2\n") as served:
-            window = served.devices["window"]
-            window.gate.clear()
-            open_ones = [asyncio.ensure_future(served.home.requests.serve("brighten", "k")) for _ in range(2)]
-            await window.asked.wait()
-            with pytest.raises(Crowded, match="2 requests wait already"):
-                await served.home.requests.serve("brighten", "k")
-            window.gate.set()
-            assert [(await each)["served_by"] for each in open_ones] == ["window"] * 2
-
-    run(test())
+async def test_too_many_requests_wait(tmp_path: Path) -> None:
+    async with Served.begin(tmp_path, "[limits]\nwaiting = 2\n") as served:
+        window = served.devices["window"]
+        window.gate.clear()
+        open_ones = [asyncio.ensure_future(served.home.requests.serve("brighten", "k")) for _ in range(2)]
+        await window.asked.wait()
+        with pytest.raises(TooManyRequests, match="2 requests wait already"):
+            await served.home.requests.serve("brighten", "k")
+        window.gate.set()
+        assert [(await each)["served_by"] for each in open_ones] == ["window"] * 2
 
 
 DEVICE = """#!/bin/sh
@@ -216,21 +201,18 @@ def test_want_of_files_is_no_failure_of_a_device(tmp_path: Path) -> None:
         live.kill()
 
 
-def test_a_device_is_asked_when_there_are_files_again(tmp_path: Path) -> None:
-    async def test() -> None:
-        async with Served.begin(tmp_path) as served:
-            ask, wants = Played.ask, [NoRoom("too many open files")] * 2
+async def test_a_device_is_asked_when_there_are_files_again(tmp_path: Path) -> None:
+    async with Served.begin(tmp_path) as served:
+        ask, wants = Played.ask, [NoSpace("too many open files")] * 2
 
-            async def short(device: Played, *words: Any) -> Any:
-                if wants:
-                    raise wants.pop()
-                return await ask(device, *words)
+        async def short(device: Played, *words: Any) -> Any:
+            if wants:
+                raise wants.pop()
+            return await ask(device, *words)
 
-            with mock.patch.object(Played, "ask", short), mock.patch.object(fleet, "NO_FILES_PAUSE", 0):
-                assert (await served.home.requests.serve("brighten"))["served_by"] == "window"
-            assert len(served.devices["window"].calls) == 1
-
-    run(test())
+        with mock.patch.object(Played, "ask", short), mock.patch.object(fleet, "NO_FILES_PAUSE", 0):
+            assert (await served.home.requests.serve("brighten"))["served_by"] == "window"
+        assert len(served.devices["window"].calls) == 1
 
 
 async def listen(served: Served) -> Client:
@@ -242,88 +224,96 @@ async def listen(served: Served) -> Client:
     return client
 
 
-def test_an_event_is_written_once_for_all_listeners(tmp_path: Path) -> None:
-    async def test() -> None:
-        async with Served.begin(tmp_path) as served:
-            listeners = [await listen(served) for _ in range(5)]
-            with mock.patch("json.dumps", wraps=json.dumps) as dumps:
-                await served.home.requests.serve("brighten")
-                for each in listeners:
-                    await each.reader.readuntil(b'"kind": "served"')
-            told = [call.args[0] for call in dumps.call_args_list]
-            assert len([each for each in told if isinstance(each, dict) and each.get("kind") == "served"]) == 1
-
-    run(test())
+async def test_an_event_is_written_once_for_all_listeners(tmp_path: Path) -> None:
+    async with Served.begin(tmp_path) as served:
+        listeners = [await listen(served) for _ in range(5)]
+        with mock.patch("json.dumps", wraps=json.dumps) as dumps:
+            await served.home.requests.serve("brighten")
+            for each in listeners:
+                await each.reader.readuntil(b'"kind": "served"')
+        told = [call.args[0] for call in dumps.call_args_list]
+        assert len([each for each in told if isinstance(each, dict) and each.get("kind") == "served"]) == 1
 
 
-def test_too_many_listeners(tmp_path: Path) -> None:
-    async def test() -> None:
-        async with Served.begin(tmp_path, "[limits]\nlisteners = 2\n") as served:
-            first, _ = await listen(served), await listen(served)
-            status, body = await (await served.client()).get("/events")
-            assert (status, json.loads(body)) == (503, {"error": "2 listen already"})
-            assert (await (await served.client()).get("/state"))[0] == 200
-            first.writer.close()
-            while served.home.events.listeners > 1:
-                served.home.events.add("begun", "something happens")
-                await asyncio.sleep(0.01)
-            await listen(served)
-
-    run(test())
+async def test_too_many_listeners(tmp_path: Path) -> None:
+    async with Served.begin(tmp_path, "[limits]\nlisteners = 2\n") as served:
+        first, _ = await listen(served), await listen(served)
+        status, body = await (await served.client()).get("/events")
+        assert (status, json.loads(body)) == (503, {"error": "2 listen already"})
+        assert (await (await served.client()).get("/state"))[0] == 200
+        first.writer.close()
+        while served.home.events.listeners > 1:
+            served.home.events.add("begun", "something happens")
+            await asyncio.sleep(0.01)
+        await listen(served)
 
 
-def test_a_listener_that_does_not_read_is_let_go(tmp_path: Path) -> None:
-    async def test() -> None:
-        async with Served.begin(tmp_path, "[limits]\nunread = 0.05\n") as served:
-            client = await listen(served)
-            client.writer.transport.pause_reading()  # type: ignore[attr-defined]
-            while served.home.events.listeners:
-                served.home.events.add("begun", "x" * 100_000)
-                await asyncio.sleep(0.01)
-            client.writer.transport.resume_reading()  # type: ignore[attr-defined]
-            await client.ended()
-
-    run(test())
-
-
-def test_the_head_of_events_ends(tmp_path: Path) -> None:
-    async def test() -> None:
-        async with Served.begin(tmp_path) as served:
-            client = await served.client()
-            for _ in range(2):
-                assert (await client.get("/events", "HEAD"))[0] == 200
-
-    run(test())
-
-
-def test_listeners_are_told_the_end(tmp_path: Path) -> None:
-    async def test() -> None:
-        async with Served.begin(tmp_path) as served:
-            client = await listen(served)
+async def test_a_listener_that_does_not_read_is_let_go(tmp_path: Path) -> None:
+    async with Served.begin(tmp_path, "[limits]\nunread = 0.05\n") as served:
+        client = await listen(served)
+        client.writer.transport.pause_reading()  # type: ignore[attr-defined]
+        while served.home.events.listeners:
+            served.home.events.add("begun", "x" * 100_000)
+            await asyncio.sleep(0.01)
+        client.writer.transport.resume_reading()  # type: ignore[attr-defined]
         await client.ended()
 
-    run(test())
+
+async def test_what_a_listener_does_not_read_takes_little_memory(tmp_path: Path) -> None:
+    async with Served.begin(tmp_path) as served:
+        client = await listen(served)
+        client.writer.transport.pause_reading()  # type: ignore[attr-defined]
+        assert served.server._gate is not None
+        (connection,) = served.server._gate._open.values()
+        assert connection._transport is not None
+        unread = 0
+        with mock.patch.object(events, "BETWEEN_WRITES", 0.0):
+            for _ in range(900):
+                served.home.events.add("begun", "x" * 10_000)
+                for _ in range(5):
+                    await asyncio.sleep(0)
+                unread = max(unread, connection._transport.get_write_buffer_size())
+        assert 0 < unread < http_api.MOST_UNREAD + 20_000
+        client.writer.transport.abort()
+
+
+async def test_of_states_a_listener_is_sent_the_newest() -> None:
+    listener: events.Listener = asyncio.Queue()
+    for name, value in (("state", 1), ("event", 2), ("state", 3), ("event", 4)):
+        listener.put_nowait(events.Message(name, value))
+    heard = await events.heard(listener, 1.0)
+    assert [each.value for each in heard if each is not None] == [2, 3, 4]
+
+
+async def test_the_head_of_events_ends(tmp_path: Path) -> None:
+    async with Served.begin(tmp_path) as served:
+        client = await served.client()
+        for _ in range(2):
+            assert (await client.get("/events", "HEAD"))[0] == 200
+
+
+async def test_listeners_are_told_the_end(tmp_path: Path) -> None:
+    async with Served.begin(tmp_path) as served:
+        client = await listen(served)
+    await client.ended()
 
 
 @pytest.mark.parametrize("status", [0, 1])
-def test_a_document_is_drawn_once(tmp_path: Path, status: int) -> None:
+async def test_a_document_is_drawn_once(tmp_path: Path, status: int) -> None:
     tool = tmp_path / "draw"
     tool.write_text(f"#!/bin/sh\necho begun >> runs\necho '<svg/>'\nexit {status}\n", encoding="ascii")
     tool.chmod(0o755)
     document = tmp_path / "home.json"
     document.touch()
 
-    async def test() -> None:
-        picture = Picture(document)
-        with mock.patch.object(pictures, "_tool", lambda: (str(tool),)):
-            drawn = await asyncio.gather(*(picture.get() for _ in range(20)))
-            assert set(drawn) == {None if status else b"<svg/>\n"}
-            assert len((tmp_path / "runs").read_text(encoding="ascii").splitlines()) == 1
-            os.utime(document, (1, 1))
-            await picture.get()
-            assert len((tmp_path / "runs").read_text(encoding="ascii").splitlines()) == 2
-
-    run(test())
+    picture = Picture(document)
+    with mock.patch.object(pictures, "_tool", lambda: (str(tool),)):
+        drawn = await asyncio.gather(*(picture.get() for _ in range(20)))
+        assert set(drawn) == {None if status else b"<svg/>\n"}
+        assert len((tmp_path / "runs").read_text(encoding="ascii").splitlines()) == 1
+        os.utime(document, (1, 1))
+        await picture.get()
+        assert len((tmp_path / "runs").read_text(encoding="ascii").splitlines()) == 2
 
 
 def changes(home: Home) -> list[str]:
@@ -331,111 +321,120 @@ def changes(home: Home) -> list[str]:
     return [each.text for each in home.events.after("") if each.kind == "changed"]
 
 
-def test_of_many_moves_the_newest_counts(tmp_path: Path) -> None:
-    async def test() -> None:
-        async with Served.begin(tmp_path) as served:
-            home = served.home
-            for number in range(1000):
-                home.fleet.environment_moved("day" if number % 2 else "dusk")
-                home.fleet.moved("window", Answer("ajar" if number % 2 else "open"))
-            while home.fleet.moves.is_open:
+async def test_of_many_moves_the_newest_counts(tmp_path: Path) -> None:
+    async with Served.begin(tmp_path) as served:
+        home = served.home
+        for number in range(1000):
+            home.fleet.environment_moved("day" if number % 2 else "dusk")
+            home.fleet.moved("window", Answer("ajar" if number % 2 else "open"))
+        while home.fleet.moves.is_open:
+            await asyncio.sleep(0)
+        assert (home.registry.environment, home.registry["window"].state) == ("day", "ajar")
+        assert changes(home) == [
+            "the environment is dusk now",
+            "jump window open",
+            "the environment is day now",
+            "jump window ajar",
+        ]
+
+
+async def test_a_request_gets_its_turn_though_sensors_never_stop(tmp_path: Path) -> None:
+    async with Served.begin(tmp_path) as served:
+        home, ask = served.home, Played.ask
+
+        async def act(device: Played, *words: Any) -> Answer:
+            return Answer((await ask(device, *words)).state)
+
+        async def report() -> None:
+            for number in itertools.count():
+                home.fleet.environment_moved(("day", "dusk")[number % 2])
+                home.fleet.moved("window", Answer(("ajar", "shut")[number // 2 % 2]))
                 await asyncio.sleep(0)
-            assert (home.known.environment, home.known["window"].state) == ("day", "ajar")
-            assert changes(home) == [
-                "the environment is dusk now",
-                "jump window open",
-                "the environment is day now",
-                "jump window ajar",
-            ]
 
-    run(test())
+        with mock.patch.object(moves, "PAUSE", 0.0), mock.patch.object(Played, "ask", act):
+            reporting = asyncio.ensure_future(report())
+            assert (await home.requests.serve("brighten"))["action"] == "brighten"
+            reporting.cancel()
 
 
-def test_a_request_gets_its_turn_though_sensors_never_stop(tmp_path: Path) -> None:
-    async def test() -> None:
-        async with Served.begin(tmp_path) as served:
-            home, ask = served.home, Played.ask
-
-            async def act(device: Played, *words: Any) -> Answer:
-                return Answer((await ask(device, *words)).state)
-
-            async def report() -> None:
-                for number in itertools.count():
-                    home.fleet.environment_moved(("day", "dusk")[number % 2])
-                    home.fleet.moved("window", Answer(("ajar", "shut")[number // 2 % 2]))
-                    await asyncio.sleep(0)
-
-            with mock.patch.object(moves, "PAUSE", 0.0), mock.patch.object(Played, "ask", act):
-                reporting = asyncio.ensure_future(report())
-                assert (await home.requests.serve("brighten"))["action"] == "brighten"
-                reporting.cancel()
-
-    run(test())
+async def test_requests_go_on_though_the_environment_moves_before_each(tmp_path: Path) -> None:
+    """A move and a request that take no turn of the loop don't wait for each other."""
+    async with Served.begin(tmp_path) as served:
+        home = served.home
+        with mock.patch.object(Store, "pace", 0.0):
+            for action in ("brighten", "boil", "pour", "dim") * 10:
+                home.fleet.environment_moved("dusk")
+                home.fleet.environment_moved("day")
+                assert (await home.requests.serve(action))["action"] == action
 
 
-def test_what_waits_is_older_than_an_answer(tmp_path: Path) -> None:
+def test_of_messages_in_a_row_the_newest_is_heard() -> None:
+    heard: list[bytes] = []
+    connection = Connection(Broker(), lambda connected, text: None)
+    connection.subscribe("day", lambda payload, retained: heard.append(payload), newest=True)
+    connection.subscribe("lamp", lambda payload, retained: heard.append(payload))
+    for topic, payload in (("day", b"1"), ("day", b"2"), ("lamp", b"3"), ("lamp", b"4"), ("day", b"5"), ("day", b"6")):
+        connection._on_message(None, None, mock.Mock(topic=topic, payload=payload))
+    assert heard == [b"2", b"3", b"4"]
+    connection._deliver()
+    assert heard[3:] == [b"6"]
+
+
+async def test_what_waits_is_older_than_an_answer(tmp_path: Path) -> None:
     """A request that has waited for moves often enough is served, and what its device said before counts no more."""
+    async with Served.begin(tmp_path) as served:
+        home = served.home
+        policy, choices = home.chooser.policy, []
 
-    async def test() -> None:
-        async with Served.begin(tmp_path) as served:
-            home = served.home
-            policy, choices = home.chooser.policy, []
+        async def choose(choice: Any) -> str:
+            choices.append(choice)
+            home.fleet.moved("window", Answer(("shut", "ajar")[len(choices) % 2]))
+            return await policy(choice)
 
-            async def choose(choice: Any) -> str:
-                choices.append(choice)
-                home.fleet.moved("window", Answer(("shut", "ajar")[len(choices) % 2]))
-                return await policy(choice)
+        home.chooser.policy = choose
+        with mock.patch.object(moves, "PAUSE", 0.0):
+            assert (await home.requests.serve("brighten"))["state"] == "open"
+        assert len(choices) == requests.MOVES + 1
+        while home.fleet.moves.is_open:
+            await asyncio.sleep(0)
+        assert home.registry["window"].state == "open"
 
-            home.chooser.policy = choose
-            with mock.patch.object(moves, "PAUSE", 0.0):
-                assert (await home.requests.serve("brighten"))["state"] == "open"
-            assert len(choices) == requests.MOVES + 1
-            while home.fleet.moves.is_open:
+
+async def test_a_frozen_device_that_reports_without_end(tmp_path: Path) -> None:
+    async with Served.begin(tmp_path) as served:
+        home, window = served.home, served.devices["window"]
+        window.error = DeviceFailed("broken")
+        assert (await home.requests.serve("brighten"))["served_by"] == "ceiling"
+        with mock.patch.object(home.fleet, "back", wraps=home.fleet.back) as back:
+            for _ in range(1000):
+                home.fleet.moved("window", Answer("nowhere"))
+            home.fleet.moved("window", Answer("ajar"))
+            while home.registry["window"].frozen:
                 await asyncio.sleep(0)
-            assert home.known["window"].state == "open"
-
-    run(test())
-
-
-def test_a_frozen_device_that_reports_without_end(tmp_path: Path) -> None:
-    async def test() -> None:
-        async with Served.begin(tmp_path) as served:
-            home, window = served.home, served.devices["window"]
-            window.error = DeviceFailed("broken")
-            assert (await home.requests.serve("brighten"))["served_by"] == "ceiling"
-            with mock.patch.object(home.fleet, "back", wraps=home.fleet.back) as back:
-                for _ in range(1000):
-                    home.fleet.moved("window", Answer("nowhere"))
-                home.fleet.moved("window", Answer("ajar"))
-                while home.known["window"].frozen:
-                    await asyncio.sleep(0)
-            assert home.known["window"].state == "ajar"
-            assert back.call_count == 2
-
-    run(test())
+        assert home.registry["window"].state == "ajar"
+        assert back.call_count == 2
 
 
-def test_too_many_requests_over_mqtt(tmp_path: Path) -> None:
-    async def test() -> None:
-        async with Served.begin(tmp_path, "[limits]\nmessages = 5\n") as served:
-            published: asyncio.Queue[Any] = asyncio.Queue()
-            served.home.fleet.broker = Fake(published)  # type: ignore[assignment]
-            heard: dict[str, Any] = {}
-            with mock.patch("time.monotonic", lambda: 0.0):
-                intake = MqttRequests(served.home)
-            with mock.patch.object(Fake, "subscribe", lambda fake, topic, listener: heard.update({topic: listener})):
-                await intake.begin()
-            with mock.patch("time.monotonic", lambda: 0.0):
-                for number in range(100):
-                    heard["requests"](json.dumps({"id": number, "action": "sing"}).encode(), False)
-            assert [(await published.get())["id"] for _ in range(5)] == list(range(5))
-            assert published.empty()
-            texts = [each.text for each in served.home.events.after("") if each.kind == "wrong"]
-            assert texts == ["requests over MQTT are ignored: too many come"] * len(texts)
-            assert len(texts) == 20
-            served.home.fleet.broker = None
-
-    run(test())
+async def test_too_many_requests_over_mqtt(tmp_path: Path) -> None:
+    async with Served.begin(tmp_path, "[limits]\nmessages = 5\n") as served:
+        published: asyncio.Queue[Any] = asyncio.Queue()
+        served.home.fleet.broker = Fake(published)  # type: ignore[assignment]
+        heard: dict[str, Any] = {}
+        with mock.patch("time.monotonic", lambda: 0.0):
+            intake = MqttRequests(served.home)
+        with mock.patch.object(
+            Fake, "subscribe", lambda fake, topic, listener, **words: heard.update({topic: listener})
+        ):
+            await intake.begin()
+        with mock.patch("time.monotonic", lambda: 0.0):
+            for number in range(100):
+                heard["requests"](json.dumps({"id": number, "action": "sing"}).encode(), False)
+        assert [(await published.get())["id"] for _ in range(5)] == list(range(5))
+        assert published.empty()
+        texts = [each.text for each in served.home.events.after("") if each.kind == "wrong"]
+        assert texts == ["requests over MQTT are ignored: too many come"] * len(texts)
+        assert len(texts) == 20
+        served.home.fleet.broker = None
 
 
 class Fake:
@@ -450,7 +449,7 @@ class Fake:
         """A topic."""
         return name
 
-    def subscribe(self, topic: str, listener: Any) -> None:
+    def subscribe(self, topic: str, listener: Any, *, newest: bool = False) -> None:
         """Ignores it."""
 
     def publish_now(self, topic: str, value: Any, retain: bool = False) -> bool:

@@ -3,10 +3,13 @@
 from __future__ import annotations
 
 import asyncio
+import errno
 import json
+import socket
 from collections.abc import Callable, Coroutine
 from pathlib import Path
 from typing import Any, TypeVar
+from unittest import mock
 
 import pytest
 from aiohttp import web
@@ -17,7 +20,9 @@ from roman_live.config import HomeFile, HomeFileError
 from roman_live.devices import Answer
 from roman_live.devices.factory import make_mapped
 from roman_live.devices.mapped import MappedReach, Outcomes
+from roman_live.devices.mapped_http import MappedHttp
 from roman_live.devices.maps import Map, MqttMap, Reading, check_map
+from roman_live.errors import NoSpace
 
 from . import sample
 from .machinery import PATIENCE, free_port
@@ -294,113 +299,95 @@ class Plug:
         return task
 
 
-def test_the_first_state_that_is_allowed_answers(tmp_path: Path) -> None:
-    async def run() -> None:
-        plug = Plug(map_of(tmp_path, MQTT))
-        await plug.reach.open()
-        call = await plug.asked(plug.reach.ask(1, BRIGHTEN))
-        assert plug.broker.sent == [("cmnd/plug/POWER", "ON")]
-        plug.result("OFF")
-        plug.result("ON", retained=True)
-        plug.broker.say("stat/plug/RESULT", '{"Dimmer": 5}')
-        await asyncio.sleep(0)
-        assert not call.done() and plug.heard.told == []
-        plug.result("ON")
-        plug.result("OFF")
-        assert (await call).state == "on"
-        assert plug.heard.told == [("answered",), ("moved", "off")]
-
-    asyncio.run(run())
+async def test_the_first_state_that_is_allowed_answers(tmp_path: Path) -> None:
+    plug = Plug(map_of(tmp_path, MQTT))
+    await plug.reach.open()
+    call = await plug.asked(plug.reach.ask(1, BRIGHTEN))
+    assert plug.broker.sent == [("cmnd/plug/POWER", "ON")]
+    plug.result("OFF")
+    plug.result("ON", retained=True)
+    plug.broker.say("stat/plug/RESULT", '{"Dimmer": 5}')
+    await asyncio.sleep(0)
+    assert not call.done() and plug.heard.told == []
+    plug.result("ON")
+    plug.result("OFF")
+    assert (await call).state == "on"
+    assert plug.heard.told == [("answered",), ("moved", "off")]
 
 
-def test_the_environment_belongs_to_the_outcome(tmp_path: Path) -> None:
+async def test_the_environment_belongs_to_the_outcome(tmp_path: Path) -> None:
     more = 'environment_template = "{{ value_json.Light }}"\nenvironments = {1 = "day", 0 = "dusk"}\nask_topic'
 
-    async def run() -> None:
-        plug = Plug(map_of(tmp_path, MQTT.replace("ask_topic", more, 1)))
-        await plug.reach.open()
-        call = await plug.asked(plug.reach.ask(1, BRIGHTEN))
-        plug.broker.say("stat/plug/RESULT", '{"POWER": "ON", "Light": 0}')
-        await asyncio.sleep(0)
-        assert not call.done()
-        plug.broker.say("stat/plug/RESULT", '{"POWER": "ON", "Light": 1}')
-        assert await call == Answer("on", "day")
-
-    asyncio.run(run())
+    plug = Plug(map_of(tmp_path, MQTT.replace("ask_topic", more, 1)))
+    await plug.reach.open()
+    call = await plug.asked(plug.reach.ask(1, BRIGHTEN))
+    plug.broker.say("stat/plug/RESULT", '{"POWER": "ON", "Light": 0}')
+    await asyncio.sleep(0)
+    assert not call.done()
+    plug.broker.say("stat/plug/RESULT", '{"POWER": "ON", "Light": 1}')
+    assert await call == Answer("on", "day")
 
 
-def test_a_state_without_a_command_is_a_move_by_hand(tmp_path: Path) -> None:
-    async def run() -> None:
-        plug = Plug(map_of(tmp_path, MQTT))
-        await plug.reach.open()
-        plug.result("ON", retained=True)
-        plug.result("OFF")
-        plug.result("JAMMED")
-        assert plug.heard.told == [("moved", "on"), ("moved", "off")]
-
-    asyncio.run(run())
+async def test_a_state_without_a_command_is_a_move_by_hand(tmp_path: Path) -> None:
+    plug = Plug(map_of(tmp_path, MQTT))
+    await plug.reach.open()
+    plug.result("ON", retained=True)
+    plug.result("OFF")
+    plug.result("JAMMED")
+    assert plug.heard.told == [("moved", "on"), ("moved", "off")]
 
 
-def test_it_is_asked_for_its_state(tmp_path: Path) -> None:
-    async def run() -> None:
-        plug = Plug(map_of(tmp_path, MQTT))
-        await plug.reach.open()
-        first, second = await plug.asked(plug.reach.tell(None)), await plug.asked(plug.reach.tell(None))
-        assert plug.broker.sent == [("cmnd/plug/POWER", "")] * 2
-        plug.result("ON")
-        assert await first == await second == Answer("on")
-        told = await plug.asked(plug.reach.tell(None))
-        plug.result("JAMMED")
-        with pytest.raises(DeviceFailed, match="^says 'JAMMED', which is in none of its states$"):
-            await told
-        plug.broker.connected = False
-        with pytest.raises(DeviceFailed, match="the broker can't be reached"):
-            await plug.reach.tell(None)
-        with pytest.raises(DeviceFailed, match="the broker can't be reached"):
-            await plug.reach.ask(2, BRIGHTEN)
-
-    asyncio.run(run())
+async def test_it_is_asked_for_its_state(tmp_path: Path) -> None:
+    plug = Plug(map_of(tmp_path, MQTT))
+    await plug.reach.open()
+    first, second = await plug.asked(plug.reach.tell(None)), await plug.asked(plug.reach.tell(None))
+    assert plug.broker.sent == [("cmnd/plug/POWER", "")] * 2
+    plug.result("ON")
+    assert await first == await second == Answer("on")
+    told = await plug.asked(plug.reach.tell(None))
+    plug.result("JAMMED")
+    with pytest.raises(DeviceFailed, match="^says 'JAMMED', which is in none of its states$"):
+        await told
+    plug.broker.connected = False
+    with pytest.raises(DeviceFailed, match="the broker can't be reached"):
+        await plug.reach.tell(None)
+    with pytest.raises(DeviceFailed, match="the broker can't be reached"):
+        await plug.reach.ask(2, BRIGHTEN)
 
 
-def test_one_that_can_not_be_asked_has_said_its_state(tmp_path: Path) -> None:
-    async def run() -> None:
-        plug = Plug(map_of(tmp_path, MQTT.replace('ask_topic = "cmnd/plug/POWER"\n', "")))
-        await plug.reach.open()
-        plug.result("ON", retained=True)
-        assert await plug.reach.tell(None) == Answer("on")
-        call = await plug.asked(plug.reach.ask(1, BRIGHTEN))
-        call.cancel()
-        with pytest.raises(asyncio.CancelledError):
-            await call
-        told = asyncio.ensure_future(plug.reach.tell(None))
-        await asyncio.sleep(0.01)
-        assert not told.done()  # What it said before the failure counts for nothing.
-        plug.result("OFF")
-        assert await told == Answer("off")
-
-    asyncio.run(run())
+async def test_one_that_can_not_be_asked_has_said_its_state(tmp_path: Path) -> None:
+    plug = Plug(map_of(tmp_path, MQTT.replace('ask_topic = "cmnd/plug/POWER"\n', "")))
+    await plug.reach.open()
+    plug.result("ON", retained=True)
+    assert await plug.reach.tell(None) == Answer("on")
+    call = await plug.asked(plug.reach.ask(1, BRIGHTEN))
+    call.cancel()
+    with pytest.raises(asyncio.CancelledError):
+        await call
+    told = asyncio.ensure_future(plug.reach.tell(None))
+    await asyncio.sleep(0.01)
+    assert not told.done()  # What it said before the failure counts for nothing.
+    plug.result("OFF")
+    assert await told == Answer("off")
 
 
-def test_its_last_will(tmp_path: Path) -> None:
-    async def run() -> None:
-        plug = Plug(map_of(tmp_path, MQTT))
-        await plug.reach.open()
-        plug.broker.say("tele/plug/LWT", "Online", retained=True)
-        assert plug.heard.told == []
-        call = await plug.asked(plug.reach.ask(1, BRIGHTEN))
-        plug.broker.say("tele/plug/LWT", "Offline")
-        with pytest.raises(DeviceFailed, match="^isn't available$"):
-            await call
-        with pytest.raises(DeviceFailed, match="^isn't available$"):
-            await plug.reach.ask(2, BRIGHTEN)
-        plug.broker.say("tele/plug/LWT", "what")
-        plug.broker.say("tele/plug/LWT", "Online")
-        assert plug.heard.told == [("gone",), ("late", "is available again")]
-
-    asyncio.run(run())
+async def test_its_last_will(tmp_path: Path) -> None:
+    plug = Plug(map_of(tmp_path, MQTT))
+    await plug.reach.open()
+    plug.broker.say("tele/plug/LWT", "Online", retained=True)
+    assert plug.heard.told == []
+    call = await plug.asked(plug.reach.ask(1, BRIGHTEN))
+    plug.broker.say("tele/plug/LWT", "Offline")
+    with pytest.raises(DeviceFailed, match="^isn't available$"):
+        await call
+    with pytest.raises(DeviceFailed, match="^isn't available$"):
+        await plug.reach.ask(2, BRIGHTEN)
+    plug.broker.say("tele/plug/LWT", "what")
+    plug.broker.say("tele/plug/LWT", "Online")
+    assert plug.heard.told == [("gone",), ("late", "is available again")]
 
 
-def test_one_that_says_no_state_is_believed(tmp_path: Path) -> None:
+async def test_one_that_says_no_state_is_believed(tmp_path: Path) -> None:
     """A plug behind a radio gateway, which only sends."""
     text = """
     document = "home.json"
@@ -413,14 +400,11 @@ def test_one_that_says_no_state_is_believed(tmp_path: Path) -> None:
     dim = {payload = '{"value": 1381716}', state = "off"}
     """
 
-    async def run() -> None:
-        plug = Plug(map_of(tmp_path, text))
-        await plug.reach.open()
-        assert await plug.reach.ask(7, BRIGHTEN) == Answer("on")
-        assert plug.broker.sent == [("home/OpenMQTTGateway/commands/MQTTtoRF", '{"value": 1381719, "id": 7}')]
-        assert await plug.reach.tell(None) is None
-
-    asyncio.run(run())
+    plug = Plug(map_of(tmp_path, text))
+    await plug.reach.open()
+    assert await plug.reach.ask(7, BRIGHTEN) == Answer("on")
+    assert plug.broker.sent == [("home/OpenMQTTGateway/commands/MQTTtoRF", '{"value": 1381719, "id": 7}')]
+    assert await plug.reach.tell(None) is None
 
 
 HUE = """
@@ -445,6 +429,8 @@ class Hue:
         self.on = False
         self.port = free_port()
         self.broken = False
+        self.answers = asyncio.Event()
+        self.answers.set()
 
     async def start(self) -> web.AppRunner:
         app = web.Application()
@@ -463,6 +449,7 @@ class Hue:
 
     async def _get(self, request: web.Request) -> web.Response:
         self._check(request)
+        await self.answers.wait()
         return web.json_response({"errors": [], "data": [{"id": "1", "on": {"on": self.on}}]})
 
     async def _put(self, request: web.Request) -> web.Response:
@@ -478,32 +465,69 @@ async def until_told(heard: Heard, what: tuple[Any, ...]) -> None:
             await asyncio.sleep(0.01)
 
 
-def test_a_light_of_hue(tmp_path: Path) -> None:
+async def test_a_light_of_hue(tmp_path: Path) -> None:
     (tmp_path / "key").write_text("secret\n", encoding="utf-8")
 
-    async def run() -> None:
-        bridge, heard = Hue(), Heard()
-        found = map_of(tmp_path, HUE.replace("PORT", str(bridge.port)))
-        reach: MappedReach = make_mapped("ceiling", found, heard, None, outcomes)
-        runner = await bridge.start()
-        await reach.open()
-        assert await reach.tell(None) == Answer("off")
-        assert await reach.ask(1, BRIGHTEN) == Answer("on")
-        assert bridge.on
-        heard.told.clear()
-        bridge.on = False
-        await until_told(heard, ("moved", "off"))
-        bridge.broken = True
-        await until_told(heard, ("gone",))
-        with pytest.raises(DeviceFailed, match=r"/light/1: status 503"):
-            await reach.ask(2, BRIGHTEN)
-        bridge.broken = False
-        heard.told.clear()
-        await until_told(heard, ("moved", "off"))
-        await reach.close()
-        await runner.cleanup()
+    bridge, heard = Hue(), Heard()
+    found = map_of(tmp_path, HUE.replace("PORT", str(bridge.port)))
+    reach: MappedReach = make_mapped("ceiling", found, heard, None, outcomes)
+    runner = await bridge.start()
+    await reach.open()
+    assert await reach.tell(None) == Answer("off")
+    assert await reach.ask(1, BRIGHTEN) == Answer("on")
+    assert bridge.on
+    heard.told.clear()
+    bridge.on = False
+    await until_told(heard, ("moved", "off"))
+    bridge.broken = True
+    await until_told(heard, ("gone",))
+    with pytest.raises(DeviceFailed, match=r"/light/1: status 503"):
+        await reach.ask(2, BRIGHTEN)
+    bridge.broken = False
+    heard.told.clear()
+    await until_told(heard, ("moved", "off"))
+    await reach.close()
+    await runner.cleanup()
 
-    asyncio.run(run())
+
+async def test_one_that_hangs_is_gone_until_it_answers(tmp_path: Path) -> None:
+    """So it is with one that can't be asked for want of files, which isn't gone."""
+    (tmp_path / "key").write_text("secret\n", encoding="utf-8")
+    bridge, heard = Hue(), Heard()
+    found = map_of(tmp_path, HUE.replace("PORT", str(bridge.port)))
+    reach = make_mapped("ceiling", found, heard, None, outcomes, 0.2)
+    runner = await bridge.start()
+    await reach.open()
+    await until_told(heard, ("moved", "off"))
+    with mock.patch.object(socket, "socket", side_effect=OSError(errno.EMFILE, "Too many open files")) as refused:
+        async with asyncio.timeout(PATIENCE):
+            while refused.call_count < 2:
+                await asyncio.sleep(0.01)
+    assert ("gone",) not in heard.told
+    bridge.answers.clear()
+    await until_told(heard, ("gone",))
+    heard.told.clear()
+    bridge.answers.set()
+    await until_told(heard, ("moved", "off"))
+    assert ("gone",) not in heard.told
+    await reach.close()
+    await runner.cleanup()
+
+
+async def test_want_of_files_after_a_command(tmp_path: Path) -> None:
+    """The device was told, so it isn't told again."""
+    (tmp_path / "key").write_text("secret\n", encoding="utf-8")
+    bridge = Hue()
+    found = map_of(tmp_path, HUE.replace("PORT", str(bridge.port)).replace("poll = 0.05", "poll = 3600"))
+    reach = make_mapped("ceiling", found, Heard(), None, outcomes)
+    assert isinstance(reach, MappedHttp)
+    runner = await bridge.start()
+    await reach.open()
+    there = json.dumps({"data": [{"on": {"on": True}}]})
+    with mock.patch.object(reach, "fetch", side_effect=[NoSpace("too many open files"), there]):
+        assert await reach.ask(1, BRIGHTEN) == Answer("on")
+    await reach.close()
+    await runner.cleanup()
 
 
 VALVE = """
@@ -523,39 +547,49 @@ dim = {register = 5, value = 0}
 """
 
 
-def test_a_valve_with_registers(tmp_path: Path) -> None:
+async def test_machines_that_hang_delay_nothing_else(tmp_path: Path) -> None:
+    with socket.create_server(("127.0.0.1", 0), backlog=64) as server:
+        found = map_of(tmp_path, VALVE.replace("PORT", str(server.getsockname()[1])))
+        reaches = [make_mapped("ceiling", found, Heard(), None, outcomes) for _ in range(40)]
+        asked = [asyncio.create_task(each.tell(None)) for each in reaches]
+        await asyncio.sleep(0)
+        assert await asyncio.to_thread(lambda: "written") == "written"
+        assert not any(each.done() for each in asked)
+    await asyncio.wait(asked)
+    for each in reaches:
+        await each.close()
+
+
+async def test_a_valve_with_registers(tmp_path: Path) -> None:
     """A valve whose place is a holding register, at the second of two units of one server."""
-
-    async def run() -> None:
-        port, heard = free_port(), Heard()
-        registers = ModbusSequentialDataBlock(0, [0] * 16)
-        units = {1: ModbusSlaveContext(zero_mode=True), 3: ModbusSlaveContext(hr=registers, zero_mode=True)}
-        server = ModbusTcpServer(ModbusServerContext(slaves=units, single=False), address=("127.0.0.1", port))
-        serving = asyncio.ensure_future(server.serve_forever())
-        await asyncio.wait_for(server.serving, PATIENCE)
-        reach = make_mapped("ceiling", map_of(tmp_path, VALVE.replace("PORT", str(port))), heard, None, outcomes)
-        assert await reach.tell(None) == Answer("off")
-        assert await reach.ask(1, BRIGHTEN) == Answer("on")
-        assert registers.getValues(5, 1) == [1000]
-        await reach.open()
-        registers.setValues(5, [0])
-        await until_told(heard, ("moved", "off"))
-        registers.setValues(5, [500])
-        with pytest.raises(DeviceFailed, match="^says '500', which is in none of its states$"):
-            await reach.tell(None)
-        other = make_mapped(
-            "ceiling",
-            map_of(tmp_path, VALVE.replace("PORT", str(port)).replace("= 4", "= 64000")),
-            heard,
-            None,
-            outcomes,
-        )
-        with pytest.raises(DeviceFailed, match="^refuses: "):
-            await other.tell(None)
-        await reach.close()
-        serving.cancel()
-        await server.server_close()
-        with pytest.raises(DeviceFailed, match=f"^127.0.0.1:{port} can't be reached$"):
-            await reach.tell(None)
-
-    asyncio.run(run())
+    port, heard = free_port(), Heard()
+    registers = ModbusSequentialDataBlock(0, [0] * 16)
+    units = {1: ModbusSlaveContext(zero_mode=True), 3: ModbusSlaveContext(hr=registers, zero_mode=True)}
+    server = ModbusTcpServer(ModbusServerContext(slaves=units, single=False), address=("127.0.0.1", port))
+    serving = asyncio.ensure_future(server.serve_forever())
+    await asyncio.wait_for(server.serving, PATIENCE)
+    reach = make_mapped("ceiling", map_of(tmp_path, VALVE.replace("PORT", str(port))), heard, None, outcomes)
+    assert await reach.tell(None) == Answer("off")
+    assert await reach.ask(1, BRIGHTEN) == Answer("on")
+    assert registers.getValues(5, 1) == [1000]
+    await reach.open()
+    registers.setValues(5, [0])
+    await until_told(heard, ("moved", "off"))
+    registers.setValues(5, [500])
+    with pytest.raises(DeviceFailed, match="^says '500', which is in none of its states$"):
+        await reach.tell(None)
+    other = make_mapped(
+        "ceiling",
+        map_of(tmp_path, VALVE.replace("PORT", str(port)).replace("= 4", "= 64000")),
+        heard,
+        None,
+        outcomes,
+    )
+    with pytest.raises(DeviceFailed, match="^refuses: "):
+        await other.tell(None)
+    serving.cancel()
+    await server.server_close()
+    with pytest.raises(DeviceFailed, match=f"^127.0.0.1:{port} can't be reached$"):
+        await reach.tell(None)
+    await reach.close()
+    await other.close()

@@ -13,7 +13,8 @@ import pytest
 
 from roman_client import Call, DeviceFailed
 from roman_live.config import CommandReach
-from roman_live.devices.command import Command, KeptCommand
+from roman_live.devices import Answer
+from roman_live.devices.command import Command, LineCommand
 from roman_live.processes import Processes
 
 from .machinery import PATIENCE
@@ -88,7 +89,7 @@ def test_its_service_is_not_asked_before_it_has_ended(
     script.write_text("#!/bin/sh\n[ $# = 1 ] && echo on || while read word; do echo on; done\n", encoding="utf-8")
     script.chmod(0o755)
     entry = CommandReach((str(script),), lines, tmp_path)
-    kind = KeptCommand if lines else Command
+    kind = LineCommand if lines else Command
     device = kind("lamp", Heard(), entry, Processes(tmp_path / "commands"), NUMBER)
 
     async def asked() -> None:
@@ -115,7 +116,7 @@ def test_a_command_that_is_kept_holds_the_lock_while_it_works(tmp_path: Path, nu
     )
     script.chmod(0o755)
     entry = CommandReach((str(script),), True, tmp_path, numbered)
-    device = KeptCommand("lamp", Heard(), entry, Processes(tmp_path / "commands"), None)
+    device = LineCommand("lamp", Heard(), entry, Processes(tmp_path / "commands"), None)
     other = Processes(tmp_path / "commands")
 
     async def asked() -> None:
@@ -129,3 +130,29 @@ def test_a_command_that_is_kept_holds_the_lock_while_it_works(tmp_path: Path, nu
         await device.close()
 
     asyncio.run(asked())
+
+
+WRITES = """#!/bin/sh
+[ "$1" = "?" ] || echo "$1" >> "$STATE_DIRECTORY/actions"
+echo on
+"""
+
+
+def test_a_command_writes_where_the_unit_lets_it(tmp_path: Path, monkeypatch: pytest.MonkeyPatch) -> None:
+    """It runs in the folder of the home file, and finds the folder of the unit in its environment."""
+    folder, state = tmp_path / "home", tmp_path / "state"
+    folder.mkdir()
+    state.mkdir()
+    command = folder / "lamp"
+    command.write_text(WRITES, encoding="ascii")
+    command.chmod(0o755)
+    monkeypatch.setenv("STATE_DIRECTORY", str(state))
+
+    async def test() -> None:
+        entry = CommandReach(("./lamp",), False, folder)
+        device = Command("lamp", Heard(), entry, Processes(tmp_path / "commands"), None)
+        assert await device.ask(1, Call("lamp", "brighten", "brighten", 1)) == Answer("on")
+
+    asyncio.run(test())
+    assert (state / "actions").read_text(encoding="ascii") == "brighten\n"
+    assert [each.name for each in folder.iterdir()] == ["lamp"]

@@ -16,7 +16,7 @@ import pytest
 
 import roman_client
 from roman_client import DeviceFailed, DeviceLost, Frozen
-from roman_client.store import reading
+from roman_client.store import open_read_only
 from roman_live.config import HomeFile, HttpReach, PythonReach
 from roman_live.devices import Answer
 from roman_live.devices.http import Http
@@ -83,6 +83,30 @@ def test_a_request_that_waits_can_be_cancelled(tmp_path: Path) -> None:
     run(test())
 
 
+def test_one_that_comes_between_two_turns_can_be_cancelled(tmp_path: Path) -> None:
+    """The turn is given to the one that waits, and not taken yet."""
+
+    async def test() -> None:
+        playhouse = Playhouse(tmp_path)
+        async with playhouse.home() as home:
+            turn = home.requests._turn
+            await turn.acquire()
+            first = asyncio.ensure_future(home.requests.serve("brighten"))
+            await until(lambda: len(home.requests._waiting) == 1)
+            window = playhouse.devices["window"]
+            window.gate.clear()
+            second = asyncio.ensure_future(home.requests._in_turn("boil", "k", PATIENCE, None))
+            turn.release()
+            await window.asked.wait()
+            assert home.requests.cancel("k") == 1
+            with pytest.raises(Cancelled):
+                await second
+            window.gate.set()
+            assert (await first)["served_by"] == "window"
+
+    run(test())
+
+
 def test_what_is_wrong_with_a_key(tmp_path: Path) -> None:
     async def test() -> None:
         playhouse = Playhouse(tmp_path)
@@ -141,14 +165,19 @@ def test_a_device_that_failed_hands_the_request_on(tmp_path: Path) -> None:
     run(test())
 
 
-def test_moves_by_hand_are_noticed(tmp_path: Path) -> None:
+@pytest.mark.parametrize(
+    "reach", ['"http"\nurl = "http://x"', '"command"\ncommand = ["true"]', '"python"\ncall = "os:getcwd"']
+)
+def test_moves_by_hand_are_noticed(tmp_path: Path, reach: str) -> None:
     async def test() -> None:
         playhouse = Playhouse(tmp_path, device="poll = 0.02")
+        text = playhouse.file.read_text(encoding="utf-8")
+        playhouse.file.write_text(text.replace('"http"\nurl = "http://x"', reach), encoding="utf-8")
         async with playhouse.home() as home:
             for state in ("ajar", "open", "shut"):
                 playhouse.devices["window"].state = state
-                await until(lambda: home.known["window"].state == state)
-            with reading(tmp_path / "home.db") as database:
+                await until(lambda: home.registry["window"].state == state)
+            with open_read_only(tmp_path / "home.db") as database:
                 changes = database.execute("SELECT words, source FROM changes").fetchall()
             assert changes.count(("jump window shut", "the device")) == 1
 
@@ -161,7 +190,7 @@ def test_nothing_is_asked_again_and_again_unless_the_home_file_says_so(tmp_path:
         async with playhouse.home() as home:
             playhouse.devices["window"].state = "ajar"
             await asyncio.sleep(0.1)
-            assert home.known["window"].state == "shut"
+            assert home.registry["window"].state == "shut"
 
     run(test())
 
@@ -172,7 +201,7 @@ def test_who_asked_and_why_this_service(tmp_path: Path) -> None:
         async with playhouse.home() as home:
             await home.requests.serve("brighten", source="http 192.168.1.7")
             await home.fleet.freeze("window", "the cleaner")
-        with reading(tmp_path / "home.db") as database:
+        with open_read_only(tmp_path / "home.db") as database:
             calls = database.execute("SELECT service, source, reason, result FROM calls").fetchall()
             changes = database.execute("SELECT words, cause, source FROM changes").fetchall()
         assert calls == [("window", "http 192.168.1.7", "first, of window, ceiling", "served")]
@@ -191,8 +220,8 @@ def test_a_service_frozen_by_hand_is_not_asked_back_after_a_start(tmp_path: Path
             assert (await result(home, "brighten", None, True))[0] == HTTPStatus.CONFLICT
             await home.fleet.freeze("ceiling")
         async with playhouse.home() as home:
-            await until(lambda: not home.known["window"].frozen)
-            assert home.known["ceiling"].frozen
+            await until(lambda: not home.registry["window"].frozen)
+            assert home.registry["ceiling"].frozen
             assert home.fleet.held() == {"ceiling"}
 
     run(test())

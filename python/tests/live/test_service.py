@@ -3,14 +3,16 @@
 import configparser
 import logging
 import os
+import re
 import shutil
 import socket
 import subprocess
-import tempfile
 import threading
-import unittest
+from contextlib import AsyncExitStack
 from pathlib import Path
 from unittest import mock
+
+import pytest
 
 from roman_live.command_line import PATIENCE as PATIENCE_OF_THE_HOME
 from roman_live.command_line import USAGE
@@ -35,100 +37,95 @@ class Systemd:
             self.heard.append(self._socket.recv(4096))
 
 
-class Service(unittest.TestCase):
-    def test_what_systemd_is_told(self) -> None:
-        folder = tempfile.TemporaryDirectory()
-        self.addCleanup(folder.cleanup)
-        live = Live(Path(folder.name), f'document = "{sample("home.json")}"', "--simulate")
-        systemd = Systemd(Path(folder.name) / "notify")
-        told = {"NOTIFY_SOCKET": f"{folder.name}/notify", "WATCHDOG_USEC": "400000"}
-        with mock.patch.dict(os.environ, told):
-            live.start(wait=False)
-        self.addCleanup(live.kill)
-        until(lambda: systemd.heard, "its first word")
-        self.assertEqual(live.get("/state")[0], 200)
-        until(lambda: b"WATCHDOG=1" in systemd.heard, "what says that it is alive")
-        for service in ("window", "ceiling"):
-            self.assertEqual(live.post(f"/services/{service}/freeze", {})[0], 200)
-        lines = [
-            f"STATUS=at {live.url}/: there is {text}".encode()
-            for text in ("a composition", "a composition; frozen: window", "no composition; frozen: window, ceiling")
-        ]
-        until(lambda: lines[-1] in systemd.heard, "how it is with the home")
-        self.assertEqual(live.stop(), 0)
-        until(lambda: systemd.heard[-1] == b"STOPPING=1", "its last word")
-        self.assertEqual(systemd.heard[0], f"READY=1\nSTATUS=at {live.url}/".encode())
-        self.assertLessEqual(set(systemd.heard[1:-1]), {b"WATCHDOG=1", *lines})
-
-    def test_a_greeting_that_cannot_be_written(self) -> None:
-        folder = tempfile.TemporaryDirectory()
-        self.addCleanup(folder.cleanup)
-        live = Live(Path(folder.name), f'document = "{sample("home.json")}"', "--simulate")
-        with open("/dev/full", "wb") as full:
-            live.start(output=full)
-        self.addCleanup(live.kill)
-        self.assertEqual(live.stop(), 0)
+def test_what_systemd_is_told(at_end: AsyncExitStack, tmp_path: Path) -> None:
+    live = Live(tmp_path, f'document = "{sample("home.json")}"', "--simulate")
+    systemd = Systemd(tmp_path / "notify")
+    told = {"NOTIFY_SOCKET": f"{tmp_path}/notify", "WATCHDOG_USEC": "400000"}
+    with mock.patch.dict(os.environ, told):
+        live.start(wait=False)
+    at_end.callback(live.kill)
+    until(lambda: systemd.heard, "its first word")
+    assert live.get("/state")[0] == 200
+    until(lambda: b"WATCHDOG=1" in systemd.heard, "what says that it is alive")
+    for service in ("window", "ceiling"):
+        assert live.post(f"/services/{service}/freeze", {})[0] == 200
+    lines = [
+        f"STATUS=at {live.url}/: there is {text}".encode()
+        for text in ("a composition", "a composition; frozen: window", "no composition; frozen: window, ceiling")
+    ]
+    until(lambda: lines[-1] in systemd.heard, "how it is with the home")
+    assert live.stop() == 0
+    until(lambda: systemd.heard[-1] == b"STOPPING=1", "its last word")
+    assert systemd.heard[0] == f"READY=1\nSTATUS=at {live.url}/".encode()
+    assert set(systemd.heard[1:-1]) <= {b"WATCHDOG=1", *lines}
 
 
-class Unit(unittest.TestCase):
-    """The units of one home, and of several."""
-
-    def unit(self, name: str) -> configparser.ConfigParser:
-        unit = configparser.ConfigParser(strict=False, interpolation=None)
-        unit.optionxform = str  # type: ignore[assignment]
-        unit.read(TOP / "samples" / "live" / name, encoding="utf-8")
-        return unit
-
-    def test_how_it_ends_and_is_started_again(self) -> None:
-        """What a device does isn't cut short by a stop, and a wrong file isn't tried for ever."""
-        service = self.unit("roman-live.service")["Service"]
-        self.assertEqual(service["KillMode"], "process")
-        self.assertEqual(service["RestartPreventExitStatus"], str(USAGE))
-        self.assertGreater(90, PATIENCE_OF_THE_HOME)  # That of systemd, before it kills.
-
-    def test_its_files(self) -> None:
-        service = self.unit("roman-live.service")["Service"]
-        self.assertGreater(int(service["LimitNOFILE"]), 2 * Limits().connections)
-        self.assertEqual(service["WorkingDirectory"], f"/var/lib/{service['StateDirectory']}")
-
-    def test_several_homes_have_nothing_in_common(self) -> None:
-        one, many = self.unit("roman-live.service"), self.unit("roman-live@.service")
-        differ = {key: many["Service"][key] for key in many["Service"] if many["Service"][key] != one["Service"][key]}
-        expected = {
-            "ExecStart": "/usr/bin/env roman-live /etc/roman/%i.toml",
-            "StateDirectory": "roman-live/%i",
-            "WorkingDirectory": "/var/lib/roman-live/%i",
-        }
-        self.assertEqual(differ, expected)
-
-    @unittest.skipUnless(shutil.which("systemd-analyze"), "there is no systemd")
-    def test_what_it_may_do(self) -> None:
-        """systemd judges how far the units are shut off, from 0 to 10."""
-        for name in ("roman-live.service", "roman-live@.service"):
-            words = ["systemd-analyze", "security", "--offline=true", "--threshold=20", "--no-pager"]
-            subprocess.run([*words, str(TOP / "samples" / "live" / name)], check=True, capture_output=True)
+def test_a_greeting_that_cannot_be_written(at_end: AsyncExitStack, tmp_path: Path) -> None:
+    live = Live(tmp_path, f'document = "{sample("home.json")}"', "--simulate")
+    with open("/dev/full", "wb") as full:
+        live.start(output=full)
+    at_end.callback(live.kill)
+    assert live.stop() == 0
 
 
-class Journal(unittest.TestCase):
-    """systemd's journal reads the priority of a line in front of it."""
-
-    def test_why_it_ends(self) -> None:
-        folder = tempfile.TemporaryDirectory()
-        self.addCleanup(folder.cleanup)
-        live = Live(Path(folder.name), 'document = "none.json"')
-        live.log.touch()
-        place = live.log.stat()
-        with mock.patch.dict(os.environ, JOURNAL_STREAM=f"{place.st_dev}:{place.st_ino}"):
-            live.start(wait=False)
-        self.assertEqual(live.process.wait(PATIENCE), 2)
-        self.assertRegex(live.text(), "^<3>roman-live: .*No such file")
-
-    def test_each_line_of_a_message(self) -> None:
-        lines = Lines("%(name)s: %(message)s")
-        for level, mark in ((logging.INFO, "<6>"), (logging.WARNING, "<4>"), (logging.ERROR, "<3>")):
-            record = logging.LogRecord("live", level, "", 0, "it fails\nand fails", (), None)
-            self.assertEqual(lines.format(record), f"{mark}live: it fails\n{mark}and fails")
+# The units of one home, and of several.
 
 
-if __name__ == "__main__":
-    unittest.main()
+def unit(name: str) -> configparser.ConfigParser:
+    unit = configparser.ConfigParser(strict=False, interpolation=None)
+    unit.optionxform = str  # type: ignore[assignment]
+    unit.read(TOP / "samples" / "live" / name, encoding="utf-8")
+    return unit
+
+
+def test_how_it_ends_and_is_started_again() -> None:
+    """What a device does isn't cut short by a stop, and a wrong file isn't tried for ever."""
+    service = unit("roman-live.service")["Service"]
+    assert service["KillMode"] == "process"
+    assert service["RestartPreventExitStatus"] == str(USAGE)
+    assert 90 > PATIENCE_OF_THE_HOME  # That of systemd, before it kills.
+
+
+def test_its_files() -> None:
+    service = unit("roman-live.service")["Service"]
+    assert int(service["LimitNOFILE"]) > 2 * Limits().connections
+    assert service["WorkingDirectory"] == f"/var/lib/{service['StateDirectory']}"
+
+
+def test_several_homes_have_nothing_in_common() -> None:
+    one, many = unit("roman-live.service"), unit("roman-live@.service")
+    differ = {key: many["Service"][key] for key in many["Service"] if many["Service"][key] != one["Service"][key]}
+    expected = {
+        "ExecStart": "/usr/bin/env roman-live /etc/roman/%i.toml",
+        "StateDirectory": "roman-live/%i",
+        "WorkingDirectory": "/var/lib/roman-live/%i",
+    }
+    assert differ == expected
+
+
+@pytest.mark.skipif(shutil.which("systemd-analyze") is None, reason="there is no systemd")
+def test_what_it_may_do() -> None:
+    """systemd judges how far the units are shut off, from 0 to 10."""
+    for name in ("roman-live.service", "roman-live@.service"):
+        words = ["systemd-analyze", "security", "--offline=true", "--threshold=20", "--no-pager"]
+        subprocess.run([*words, str(TOP / "samples" / "live" / name)], check=True, capture_output=True)
+
+
+# systemd's journal reads the priority of a line in front of it.
+
+
+def test_why_it_ends(tmp_path: Path) -> None:
+    live = Live(tmp_path, 'document = "none.json"')
+    live.log.touch()
+    place = live.log.stat()
+    with mock.patch.dict(os.environ, JOURNAL_STREAM=f"{place.st_dev}:{place.st_ino}"):
+        live.start(wait=False)
+    assert live.process.wait(PATIENCE) == 2
+    assert re.search("^<3>roman-live: .*No such file", live.text())
+
+
+def test_each_line_of_a_message() -> None:
+    lines = Lines("%(name)s: %(message)s")
+    for level, mark in ((logging.INFO, "<6>"), (logging.WARNING, "<4>"), (logging.ERROR, "<3>")):
+        record = logging.LogRecord("live", level, "", 0, "it fails\nand fails", (), None)
+        assert lines.format(record) == f"{mark}live: it fails\n{mark}and fails"

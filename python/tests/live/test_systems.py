@@ -3,8 +3,8 @@
 from __future__ import annotations
 
 import json
-import unittest
 from collections.abc import Callable
+from contextlib import AsyncExitStack
 from typing import Any
 
 import jinja2
@@ -125,40 +125,39 @@ class Lit(Running):
         self.broker.stop()
 
 
-class Systems(unittest.TestCase):
-    def serves(self, answer: Callable[[str], str]) -> None:
-        """What answers so is asked where the lamp is, and serves twice."""
-        home = Lit()
-        self.addCleanup(home.close)
-        ceiling = Ceiling(home.broker.port, answer)
-        self.addCleanup(ceiling.close)
-        home.begin()
-        done = [home.post("requests", {"action": each}) for each in ("brighten", "boil", "pour", "dim")]
-        self.assertEqual(
-            [(each["served_by"], each["state"]) for each in done],
-            [("ceiling", "on"), ("kettle", "hot"), ("kettle", "empty"), ("ceiling", "off")],
-        )
-        self.assertEqual(ceiling.heard, [None, "brighten", "dim"])
-        shown = {each["name"]: each for each in home.state()["services"]}["ceiling"]
-        self.assertEqual((shown["status"], shown["last_error"]), ("ready", None))
-
-    def test_home_assistant(self) -> None:
-        automation = Automation(block("yaml"))
-        self.assertEqual(automation.topic, REACH.ask)
-
-        def answer(message: str) -> str:
-            ((topic, text),) = automation.run(message).items()
-            self.assertEqual(topic, REACH.answer)
-            return text
-
-        self.serves(answer)
-        self.assertEqual(automation.lights, {"light.ceiling": "off"})
-
-    def test_node_red(self) -> None:
-        driver = browser()
-        self.addCleanup(driver.quit)
-        self.serves(lambda message: str(driver.execute_script(NODE, message, block("js"))))
+def serves(at_end: AsyncExitStack, answer: Callable[[str], str]) -> None:
+    """What answers so is asked where the lamp is, and serves twice."""
+    home = Lit()
+    at_end.callback(home.close)
+    ceiling = Ceiling(home.broker.port, answer)
+    at_end.callback(ceiling.close)
+    home.begin()
+    done = [home.post("requests", {"action": each}) for each in ("brighten", "boil", "pour", "dim")]
+    assert [(each["served_by"], each["state"]) for each in done] == [
+        ("ceiling", "on"),
+        ("kettle", "hot"),
+        ("kettle", "empty"),
+        ("ceiling", "off"),
+    ]
+    assert ceiling.heard == [None, "brighten", "dim"]
+    shown = {each["name"]: each for each in home.state()["services"]}["ceiling"]
+    assert (shown["status"], shown["last_error"]) == ("ready", None)
 
 
-if __name__ == "__main__":
-    unittest.main()
+def test_home_assistant(at_end: AsyncExitStack) -> None:
+    automation = Automation(block("yaml"))
+    assert automation.topic == REACH.ask
+
+    def answer(message: str) -> str:
+        ((topic, text),) = automation.run(message).items()
+        assert topic == REACH.answer
+        return text
+
+    serves(at_end, answer)
+    assert automation.lights == {"light.ceiling": "off"}
+
+
+def test_node_red(at_end: AsyncExitStack) -> None:
+    driver = browser()
+    at_end.callback(driver.quit)
+    serves(at_end, lambda message: str(driver.execute_script(NODE, message, block("js"))))

@@ -4,9 +4,18 @@ from pathlib import Path
 
 import pytest
 
+from . import TOP
+
 
 @pytest.fixture
 def folder(tmp_path: Path, monkeypatch: pytest.MonkeyPatch) -> Path:
     """A folder in which the test works."""
     monkeypatch.chdir(tmp_path)
     return tmp_path
+
+
+@pytest.fixture
+def at_top(folder: Path, monkeypatch: pytest.MonkeyPatch) -> Path:
+    """The folder of the test, which works at the top of the repository."""
+    monkeypatch.chdir(TOP)
+    return folder

@@ -4,12 +4,10 @@ import json
 import os
 import re
 import subprocess
-import sys
-import tempfile
-import unittest
 from collections.abc import Iterator
 from pathlib import Path
 
+import pytest
 from hypothesis import given
 
 from roman_tools.documents import read
@@ -18,6 +16,9 @@ from roman_tools.lint import all_findings, lint
 
 from . import PROGRAM, TOP
 from .broken import Broken, broken_documents, many_documents
+from .shell import tool
+
+pytestmark = pytest.mark.usefixtures("folder")
 
 Row = tuple[str, str, str]
 """A refusal without its document, a text of the sample, and what stands in its place: the faulty word between
@@ -239,346 +240,350 @@ def all_refusals() -> set[tuple[str, str, str]]:
     return found
 
 
-class Folder(unittest.TestCase):
-    """Tests that write documents into a folder, and work there."""
+# Tests that write documents into a folder, and work there.
 
-    def setUp(self) -> None:
-        folder = tempfile.TemporaryDirectory()
-        self.addCleanup(folder.cleanup)
-        self.addCleanup(os.chdir, os.getcwd())
-        os.chdir(folder.name)
 
-    def write(self, name: str, text: str) -> None:
-        Path(name).write_bytes(text.encode("utf-8", "surrogateescape"))
+def write(name: str, text: str) -> None:
+    Path(name).write_bytes(text.encode("utf-8", "surrogateescape"))
 
-    def said(self) -> str:
-        """What the program says where it refuses."""
-        done = subprocess.run([PROGRAM, "synth", "s.json"], capture_output=True, text=True, timeout=60, check=False)
-        return done.stdout.rstrip("\n") if done.returncode == 3 else ""
 
-    def errors(self) -> list[Finding]:
-        return [each for each in lint("s.json") if each.level is Level.ERROR]
+def said() -> str:
+    """What the program says where it refuses."""
+    done = subprocess.run([PROGRAM, "synth", "s.json"], capture_output=True, text=True, timeout=60, check=False)
+    return done.stdout.rstrip("\n") if done.returncode == 3 else ""
 
-    def warnings(self, text: str) -> list[str]:
-        """The warnings of a document that the program takes: the word that is marked, and the message."""
-        self.write("s.json", text)
-        self.assertEqual((self.said(), self.errors()), ("", []))
-        return [f"{marked(each)}: {each.message}" for each in lint("s.json")]
+
+def errors() -> list[Finding]:
+    return [each for each in lint("s.json") if each.level is Level.ERROR]
+
+
+def warnings(text: str) -> list[str]:
+    """The warnings of a document that the program takes: the word that is marked, and the message."""
+    write("s.json", text)
+    assert (said(), errors()) == ("", [])
+    return [f"{marked(each)}: {each.message}" for each in lint("s.json")]
 
 
 def marked(finding: Finding) -> str:
     return finding.span.source.text[finding.span.start : finding.span.end]
 
 
-class Refusals(Folder):
-    """Each refusal of the format is found first, at its place."""
-
-    seen: set[tuple[str, str, str]]
-
-    def row(self, text: str, row: Row, document: str = "s.json") -> None:
-        line, old, new = row
-        self.assertIn(old, text)
-        edited = new if old == "{" else text.replace(old, new, 1)
-        if old.endswith("}}") and new.startswith('"'):
-            edited = text.replace(old, new + "}}", 1)
-        parts = re.split("[«»]", edited)
-        self.write(document, "".join(parts))
-        refusal = f"refused {document} {line}"
-        self.assertEqual(self.said(), refusal)
-        finding = read("s.json").findings[0]
-        self.assertEqual(str(finding.refusal), refusal)
-        self.assertEqual(finding.span.source.name, document)
-        if len(parts) > 1:
-            before = parts[0]
-            place = (before.count("\n") + 1, len(before) - before.rfind("\n"))
-            self.assertEqual(finding.span.place, place)
-            self.assertEqual(marked(finding), parts[1])
-        kind, part, _, place_word, *_ = line.split()
-        self.seen.add((kind, part, place_word))
-
-    def test_each_refusal_at_its_place(self) -> None:
-        self.seen = set()
-        for name, rows in (("home", of_home()), ("lamp", of_lamp()), ("two", of_two())):
-            text = sample(name)
-            if name != "home":
-                text = json.dumps(json.loads(text))
-            for row in rows:
-                with self.subTest(document=name, refusal=row[0], edit=row[2][:80]):
-                    self.row(text, row)
-        lamp = json.loads(sample("lamp"))
-        for part, member in (("behaviour", "behaviours"), ("environment", "environment"), ("target", "target")):
-            value = lamp[member][0] if part == "behaviour" else lamp[member]
-            by_file = [json.loads(TAP)] if part == "behaviour" else json.loads(TAP)
-            self.write("s.json", json.dumps({**lamp, member: by_file}))
-            for line, old, new in of_part():
-                start = value["start"]
-                row = (line.replace("behaviour", part), old.replace("off", start), new)
-                with self.subTest(part=part, refusal=row[0]):
-                    self.row(json.dumps(value), row, "tap.json")
-        self.assertEqual(all_refusals() - self.seen, set())
-
-    def test_all_errors_and_not_the_first_alone(self) -> None:
-        text = sample("home").replace('"start": "day"', '"start": "dya"')
-        text = text.replace('["dusk", "dim", "day"]', '["dusk", "dimm", "night"]')
-        text = text.replace('{"name": "kettle", "behaviour": "kettle"}', '{"name": "kettle", "behaviour": "ketle"}')
-        self.write("s.json", text)
-        self.assertEqual([marked(each) for each in self.errors()], ['"dya"', '"dimm"', '"night"', '"ketle"'])
-        self.assertIn('did you mean "day"?', self.errors()[0].message)
-        self.assertNotIn("did you mean", self.errors()[2].message)
-        self.assertIn('did you mean "kettle"?', self.errors()[3].message)
-
-    def test_one_mistake_is_one_error(self) -> None:
-        """A list that is wrong as a whole isn't told again by each of its names."""
-        for old, new in (
-            ('"states": ["day", "dusk"]', '"states": 5'),
-            ('"states": ["day", "dusk"]', '"states": ["day", 5]'),
-            ('"actions": ["brighten", "boil", "pour", "dim"]', '"note": 1'),
-            ('"name": "blind"', '"name": 5'),
-        ):
-            with self.subTest(new):
-                self.write("s.json", sample("home").replace(old, new))
-                self.assertEqual(len(self.errors()), 1)
-
-    def test_tabs_ends_of_lines_and_letters(self) -> None:
-        text = '{\r\n\t"note": "é→𝄞",\t"roman": 4\r\n}'
-        self.write("s.json", text)
-        (version,) = (each for each in self.errors() if marked(each) == "4")
-        shown = version.shown()
-        self.assertTrue(shown[0].startswith("s.json:2:26: error: "), shown[0])
-        self.assertEqual(shown[1], '  \t"note": "é→𝄞",\t"roman": 4')
-        self.assertEqual(shown[2], "  \t" + " " * 14 + "\t" + " " * 9 + "^")
-
-    def test_a_part_file_that_is_not_there(self) -> None:
-        self.write("s.json", sample("lamp").replace('"target": {', '"target": {"file": "gone.json",'))
-        self.assertEqual([marked(each) for each in self.errors()], ['"gone.json"'])
-        self.assertIn("No such file", self.errors()[0].message)
+# Each refusal of the format is found first, at its place.
 
 
-class Warnings(Folder):
-    """What the program takes, and nobody means."""
-
-    def only(self, text: str, word: str, message: str) -> None:
-        """The document has that warning at that word, and no other."""
-        self.assertEqual(self.warnings(text), [f"{word}: {message}"])
-
-    def home(self, old: str, new: str) -> str:
-        self.assertIn(old, sample("home"))
-        return sample("home").replace(old, new, 1)
-
-    def test_samples_have_none(self) -> None:
-        os.chdir(TOP)
-        for file in sorted((TOP / "samples").glob("*.json")):
-            if "behaviour" not in file.name:
-                self.assertEqual(lint(str(file)), [], file.name)
-
-    def test_members_that_are_ignored(self) -> None:
-        kettle = '{"name": "kettle", "behaviour": "kettle"'
-        text = self.home('"roman": 1', '"roman": 2').replace(kettle, kettle + ', "rest": false')
-        message = '"rest" is no member of service "kettle", and is ignored; did you mean "rests"?'
-        self.only(text, '"rest"', message)
-        text = self.home(kettle, kettle + ', "frozne": true')
-        message = '"frozne" is no member of service "kettle", and is ignored; did you mean "frozen"?'
-        self.only(text, '"frozne"', message)
-        text = self.home(kettle, kettle + ', "rests": false')
-        message = 'version 1 ignores "rests", and this service rests; version 2 knows loose services'
-        self.only(text, '"rests"', message)
-        self.only(self.home('"roman": 1', '"roman": 1, "targets": 5'), '"targets"', 'version 1 ignores "targets"')
-        two = sample("two").replace('"roman": 3', '"roman": 3, "target": 5')
-        self.only(two, '"target"', 'version 3 ignores "target"')
-        self.assertEqual(self.warnings(self.home('"roman": 1', '"roman": 1, "note": 1')), [])
-
-    def test_members_given_twice(self) -> None:
-        text = self.home('"start": "day"', '"start": "dusk", "start": "day"')
-        self.only(text, '"start"', '"start" is given twice; that of line 6, column 22 counts')
-        text = self.home('["quiet", true,', '["quiet", {"not": [], "not": ["day"], "n\\u006ft": []},')
-        found = self.warnings(text)
-        self.assertEqual([each.split(":")[0] for each in found], ['"not"', '"not"'])
-
-    def test_actions_that_come_to_nothing(self) -> None:
-        text = self.home('"pour", "dim"]', '"pour", "dim", "sweep"]')
-        message = 'the environment has no step on "sweep", so nobody is ever asked for it'
-        self.only(text, '"sweep"', message)
-        loops = '["day", "brighten", "day"], ["day", "sweep", "day"]'
-        text = text.replace('["day", "brighten", "day"]', loops)
-        self.only(text, '"sweep"', 'the target never allows "sweep"')
-        text = text.replace(
-            '["quiet", true, "brighten", "bright"]',
-            '["quiet", true, "brighten", "bright"], ["quiet", true, "sweep", "quiet"]',
-        )
-        self.only(text, '"sweep"', 'the target allows "sweep", and no service can ever take it')
-
-    def test_the_targets_action_without_a_step_of_the_environment(self) -> None:
-        text = self.home('["day", "dim", "day"],\n      ["dusk", "dim", "day"]', "").replace(
-            '"dusk"],\n      \n', '"dusk"]\n'
-        )
-        found = self.warnings(text)
-        self.assertIn('"dim": the environment has no step on "dim", so nobody is ever asked for it', found)
-        stuck = 'the target can go no further in "served", and isn\'t final there: if the environment is in "day"'
-        stuck += " (or in 1 other states)"
-        why = ', the environment has no step on "dim"; the way there: brighten, boil, pour'
-        self.assertIn(f'["served", true, "dim", "quiet"]: {stuck}{why}', found)
-
-    def test_states_that_nobody_comes_into(self) -> None:
-        text = self.home('"states": ["day", "dusk"]', '"states": ["day", "dusk", "night"]')
-        self.only(text, '"night"', 'the environment never comes into "night"')
-        text = self.home('"states": ["off", "on"]', '"states": ["off", "on", "broken"]')
-        self.only(text, '"broken"', 'behaviour "lamp" never comes into "broken"')
-        lamp = '"ceiling", "behaviour": "lamp"'
-        text = text.replace('["on", true, "dim", "off"]', '["on", true, "dim", "off"], ["broken", true, "dim", "off"]')
-        self.assertEqual(self.warnings(text.replace(lamp, lamp + ', "state": "broken"')), [])
-        text = self.home('"states": ["quiet",', '"states": ["asleep", "quiet",')
-        self.only(text, '"asleep"', 'the target never comes into "asleep"')
-
-    def test_guards_that_never_hold(self) -> None:
-        text = self.home(
-            '["off", true, "brighten", "on"]',
-            '["off", true, "brighten", "on"], ["on", {"all": [["day"], ["dusk"]]}, "boil", "on"]',
-        )
-        message = 'this guard never holds, so behaviour "lamp" (service "ceiling") never takes "boil" by this step'
-        self.only(text, '{"all": [["day"], ["dusk"]]}', message)
-        self.assertEqual(self.warnings(text.replace('{"all": [["day"], ["dusk"]]}', "false")), [])
-        text = self.home('["dusk", "dim", "day"]', '["dusk", "boil", "day"]')
-        text = text.replace('["on", true, "dim", "off"]', '["on", true, "dim", "off"], ["on", ["dusk"], "dim", "on"]')
-        message = (
-            'if this guard holds, the environment has no step on "dim", so behaviour "lamp" (service "ceiling")'
-            " never takes this step"
-        )
-        stuck = 'the target can go no further in "served", and isn\'t final there: if the environment is in "dusk",'
-        stuck += ' the environment has no step on "dim"; the way there: brighten, boil, pour'
-        self.assertEqual(self.warnings(text), [f'["day", "dim", "day"]: {stuck}', f'["dusk"]: {message}'])
-
-    def test_services_that_never_serve(self) -> None:
-        stone = '{"name": "stone", "states": ["x"], "start": "x", "final": ["x"], "steps": []}, {'
-        text = self.home('"behaviours": [\n    {', '"behaviours": [\n    ' + stone)
-        text = text.replace('"services": [', '"services": [{"name": "rock", "behaviour": "stone"},')
-        self.only(text, '"rock"', 'service "rock" can never serve a request')
-
-    def test_finals_that_services_have_not(self) -> None:
-        text = self.home('"final": ["off"]', '"final": []')
-        message = 'the target may be left in "quiet", and service "ceiling" can never be in a final state'
-        self.only(text, '"ceiling"', message)
-        text = text.replace('"roman": 1', '"roman": 2')
-        lamp = '"ceiling", "behaviour": "lamp"'
-        self.assertEqual(self.warnings(text.replace(lamp, lamp + ', "rests": false')), [])
-
-    def test_a_target_that_stops(self) -> None:
-        text = self.home(
-            '["quiet", true, "brighten", "bright"]',
-            '["quiet", true, "brighten", "bright"], ["bright", true, "pour", "stuck"]',
-        )
-        text = text.replace('"states": ["quiet",', '"states": ["stuck", "quiet",')
-        message = 'the target can go no further in "stuck", and isn\'t final there: no step leaves it'
-        message += "; the way there: brighten, pour"
-        self.only(text, '"stuck"', message)
-
-    def test_more_cells_than_the_limit(self) -> None:
-        text = self.home('"roman": 1', '"roman": 1, "limit": 575')
-        message = (
-            "the target, the environment, the services and the actions make 4 × 2 × 3·2·3 × 4 = 576 cells,"
-            ' and the limit is 575; write "limit": 600'
-        )
-        self.only(text, "575", message)
-        self.assertEqual(self.warnings(text.replace("575", "576")), [])
+def refused(text: str, row: Row, document: str = "s.json") -> tuple[str, str, str]:
+    """Checks that a text with the edit of a row is refused as it says, at the marked place. Gives the refusal's kind,
+    part and list."""
+    line, old, new = row
+    assert old in text
+    edited = new if old == "{" else text.replace(old, new, 1)
+    if old.endswith("}}") and new.startswith('"'):
+        edited = text.replace(old, new + "}}", 1)
+    parts = re.split("[«»]", edited)
+    write(document, "".join(parts))
+    refusal = f"refused {document} {line}"
+    assert said() == refusal
+    finding = read("s.json").findings[0]
+    assert str(finding.refusal) == refusal
+    assert finding.span.source.name == document
+    if len(parts) > 1:
+        before = parts[0]
+        place = (before.count("\n") + 1, len(before) - before.rfind("\n"))
+        assert finding.span.place == place
+        assert marked(finding) == parts[1]
+    kind, part, _, place_word, *_ = line.split()
+    return kind, part, place_word
 
 
-class Command(Folder):
-    """The words, the statuses, and the forms in which it is shown."""
-
-    wrong = sample("home").replace('"start": "day"', '"start": "dya"')
-
-    def lint(self, *words: str) -> "subprocess.CompletedProcess[str]":
-        return subprocess.run(
-            [sys.executable, str(TOP / "tools" / "roman-lint"), *words],
-            env={**os.environ, "ROMAN": PROGRAM, "PYTHONIOENCODING": "utf-8"},
-            capture_output=True,
-            text=True,
-            timeout=60,
-            check=False,
-        )
-
-    def test_what_is_shown(self) -> None:
-        self.write("s.json", self.wrong)
-        done = self.lint("s.json")
-        self.assertEqual((done.returncode, done.stderr), (3, ""))
-        self.assertEqual(
-            done.stdout,
-            's.json:6:14: error: "dya" is no state of the environment; did you mean "day"?\n'
-            '      "start": "dya",\n'
-            "               ^~~~~\n"
-            "1 error, 0 warnings\n"
-            "roman says: refused s.json unknown environment 0 start 0\n",
-        )
-
-    def test_statuses(self) -> None:
-        self.write("s.json", self.wrong)
-        self.write("warned.json", sample("home").replace('"roman": 1', '"roman": 1, "limits": 1'))
-        self.write("good.json", sample("home"))
-        cases: list[tuple[int, list[str]]] = [
-            (3, ["s.json"]),
-            (3, ["--strict", "s.json"]),
-            (0, ["warned.json"]),
-            (1, ["--strict", "warned.json"]),
-            (0, ["--strict", "good.json"]),
-            (5, ["gone.json"]),
-            (5, ["."]),
-            (2, []),
-        ]
-        for status, words in cases:
-            with self.subTest(words):
-                self.assertEqual(self.lint(*words).returncode, status)
-
-    def test_the_program_has_the_last_word(self) -> None:
-        self.write("good.json", sample("flaky"))
-        self.assertIn("\nroman says: answer none\n", self.lint("good.json").stdout)
-        self.assertIn("isn't here", self.lint("--no-program", "good.json").stdout)
-        self.assertIn("can't be called", self.lint("--program", "./gone", "good.json").stdout)
-
-    def test_json(self) -> None:
-        self.write("s.json", self.wrong)
-        value = json.loads(self.lint("--json", "s.json").stdout)
-        (found,) = value["findings"]
-        self.assertEqual((found["line"], found["column"], found["endLine"], found["endColumn"]), (6, 14, 6, 19))
-        self.assertEqual((found["file"], found["severity"]), ("s.json", "error"))
-        self.assertEqual(found["refusal"], value["roman"])
-
-    def test_bytes_that_are_no_text(self) -> None:
-        for data in (b"\xff", b'{"a": "\xff\x00"}', b'{"\\ud800": 1, "roman": 4}', b""):
-            Path("s.json").write_bytes(data)
-            with self.subTest(data):
-                done = self.lint("s.json")
-                self.assertEqual((done.returncode, done.stderr), (3, ""))
-                self.assertEqual(self.lint("--json", "s.json").returncode, 3)
+def test_each_refusal_at_its_place() -> None:
+    seen = set()
+    for name, rows in (("home", of_home()), ("lamp", of_lamp()), ("two", of_two())):
+        text = sample(name)
+        if name != "home":
+            text = json.dumps(json.loads(text))
+        for row in rows:
+            seen.add(refused(text, row))
+    lamp = json.loads(sample("lamp"))
+    for part, member in (("behaviour", "behaviours"), ("environment", "environment"), ("target", "target")):
+        value = lamp[member][0] if part == "behaviour" else lamp[member]
+        by_file = [json.loads(TAP)] if part == "behaviour" else json.loads(TAP)
+        write("s.json", json.dumps({**lamp, member: by_file}))
+        for line, old, new in of_part():
+            start = value["start"]
+            row = (line.replace("behaviour", part), old.replace("off", start), new)
+            seen.add(refused(json.dumps(value), row, "tap.json"))
+    assert all_refusals() - seen == set()
 
 
-class Random(Folder):
-    """Documents with random faults: an error exactly where the program refuses, the first one the same."""
-
-    def test_an_error_where_the_program_refuses(self) -> None:
-        refused: list[str] = []
-
-        @many_documents
-        @given(broken=broken_documents())
-        def compare(broken: Broken) -> None:
-            broken.write(Path("."))
-            words = [PROGRAM, "synth", "broken.json"]
-            done = subprocess.run(words, capture_output=True, text=True, timeout=60, check=False)
-            checker = read("broken.json")
-            found = all_findings(checker)
-            errors = [each for each in found if each.level is Level.ERROR]
-            if done.returncode == 5:
-                self.assertNotEqual(errors, [])
-                return
-            said = done.stdout.rstrip("\n") if done.returncode == 3 else ""
-            self.assertEqual(str(checker.findings[0].refusal) if checker.findings else "", said)
-            self.assertEqual(bool(errors), done.returncode == 3)
-            for each in found:
-                json.dumps(each.value()).encode()
-                "\n".join(each.shown()).encode()
-            refused.extend([said] if said else [])
-
-        compare()
-        self.assertGreater(len(refused), 100)
+def test_all_errors_and_not_the_first_alone() -> None:
+    text = sample("home").replace('"start": "day"', '"start": "dya"')
+    text = text.replace('["dusk", "dim", "day"]', '["dusk", "dimm", "night"]')
+    text = text.replace('{"name": "kettle", "behaviour": "kettle"}', '{"name": "kettle", "behaviour": "ketle"}')
+    write("s.json", text)
+    assert [marked(each) for each in errors()] == ['"dya"', '"dimm"', '"night"', '"ketle"']
+    assert 'did you mean "day"?' in errors()[0].message
+    assert "did you mean" not in errors()[2].message
+    assert 'did you mean "kettle"?' in errors()[3].message
 
 
-if __name__ == "__main__":
-    unittest.main()
+@pytest.mark.parametrize(
+    "old, new",
+    [
+        ('"states": ["day", "dusk"]', '"states": 5'),
+        ('"states": ["day", "dusk"]', '"states": ["day", 5]'),
+        ('"actions": ["brighten", "boil", "pour", "dim"]', '"note": 1'),
+        ('"name": "blind"', '"name": 5'),
+    ],
+)
+def test_one_mistake_is_one_error(old: str, new: str) -> None:
+    """A list that is wrong as a whole isn't told again by each of its names."""
+    write("s.json", sample("home").replace(old, new))
+    assert len(errors()) == 1
+
+
+def test_tabs_ends_of_lines_and_letters() -> None:
+    text = '{\r\n\t"note": "é→𝄞",\t"roman": 4\r\n}'
+    write("s.json", text)
+    (version,) = (each for each in errors() if marked(each) == "4")
+    shown = version.shown()
+    assert shown[0].startswith("s.json:2:26: error: "), shown[0]
+    assert shown[1] == '  \t"note": "é→𝄞",\t"roman": 4'
+    assert shown[2] == "  \t" + " " * 14 + "\t" + " " * 9 + "^"
+
+
+def test_a_part_file_that_is_not_there() -> None:
+    write("s.json", sample("lamp").replace('"target": {', '"target": {"file": "gone.json",'))
+    assert [marked(each) for each in errors()] == ['"gone.json"']
+    assert "No such file" in errors()[0].message
+
+
+# What the program takes, and nobody means.
+
+
+def only(text: str, word: str, message: str) -> None:
+    """The document has that warning at that word, and no other."""
+    assert warnings(text) == [f"{word}: {message}"]
+
+
+def home(old: str, new: str) -> str:
+    assert old in sample("home")
+    return sample("home").replace(old, new, 1)
+
+
+def test_samples_have_none() -> None:
+    os.chdir(TOP)
+    for file in sorted((TOP / "samples").glob("*.json")):
+        if "behaviour" not in file.name:
+            assert lint(str(file)) == [], file.name
+
+
+def test_members_that_are_ignored() -> None:
+    kettle = '{"name": "kettle", "behaviour": "kettle"'
+    text = home('"roman": 1', '"roman": 2').replace(kettle, kettle + ', "rest": false')
+    message = '"rest" is no member of service "kettle", and is ignored; did you mean "rests"?'
+    only(text, '"rest"', message)
+    text = home(kettle, kettle + ', "frozne": true')
+    message = '"frozne" is no member of service "kettle", and is ignored; did you mean "frozen"?'
+    only(text, '"frozne"', message)
+    text = home(kettle, kettle + ', "rests": false')
+    message = 'version 1 ignores "rests", and this service rests; version 2 knows loose services'
+    only(text, '"rests"', message)
+    only(home('"roman": 1', '"roman": 1, "targets": 5'), '"targets"', 'version 1 ignores "targets"')
+    two = sample("two").replace('"roman": 3', '"roman": 3, "target": 5')
+    only(two, '"target"', 'version 3 ignores "target"')
+    assert warnings(home('"roman": 1', '"roman": 1, "note": 1')) == []
+
+
+def test_members_given_twice() -> None:
+    text = home('"start": "day"', '"start": "dusk", "start": "day"')
+    only(text, '"start"', '"start" is given twice; that of line 6, column 22 counts')
+    text = home('["quiet", true,', '["quiet", {"not": [], "not": ["day"], "n\\u006ft": []},')
+    found = warnings(text)
+    assert [each.split(":")[0] for each in found] == ['"not"', '"not"']
+
+
+def test_actions_that_come_to_nothing() -> None:
+    text = home('"pour", "dim"]', '"pour", "dim", "sweep"]')
+    message = 'the environment has no step on "sweep", so nobody is ever asked for it'
+    only(text, '"sweep"', message)
+    loops = '["day", "brighten", "day"], ["day", "sweep", "day"]'
+    text = text.replace('["day", "brighten", "day"]', loops)
+    only(text, '"sweep"', 'the target never allows "sweep"')
+    text = text.replace(
+        '["quiet", true, "brighten", "bright"]',
+        '["quiet", true, "brighten", "bright"], ["quiet", true, "sweep", "quiet"]',
+    )
+    only(text, '"sweep"', 'the target allows "sweep", and no service can ever take it')
+
+
+def test_the_targets_action_without_a_step_of_the_environment() -> None:
+    text = home('["day", "dim", "day"],\n      ["dusk", "dim", "day"]', "").replace('"dusk"],\n      \n', '"dusk"]\n')
+    found = warnings(text)
+    assert '"dim": the environment has no step on "dim", so nobody is ever asked for it' in found
+    stuck = 'the target can go no further in "served", and isn\'t final there: if the environment is in "day"'
+    stuck += " (or in 1 other states)"
+    why = ', the environment has no step on "dim"; the way there: brighten, boil, pour'
+    assert f'["served", true, "dim", "quiet"]: {stuck}{why}' in found
+
+
+def test_states_that_nobody_comes_into() -> None:
+    text = home('"states": ["day", "dusk"]', '"states": ["day", "dusk", "night"]')
+    only(text, '"night"', 'the environment never comes into "night"')
+    text = home('"states": ["off", "on"]', '"states": ["off", "on", "broken"]')
+    only(text, '"broken"', 'behaviour "lamp" never comes into "broken"')
+    lamp = '"ceiling", "behaviour": "lamp"'
+    text = text.replace('["on", true, "dim", "off"]', '["on", true, "dim", "off"], ["broken", true, "dim", "off"]')
+    assert warnings(text.replace(lamp, lamp + ', "state": "broken"')) == []
+    text = home('"states": ["quiet",', '"states": ["asleep", "quiet",')
+    only(text, '"asleep"', 'the target never comes into "asleep"')
+
+
+def test_guards_that_never_hold() -> None:
+    text = home(
+        '["off", true, "brighten", "on"]',
+        '["off", true, "brighten", "on"], ["on", {"all": [["day"], ["dusk"]]}, "boil", "on"]',
+    )
+    message = 'this guard never holds, so behaviour "lamp" (service "ceiling") never takes "boil" by this step'
+    only(text, '{"all": [["day"], ["dusk"]]}', message)
+    assert warnings(text.replace('{"all": [["day"], ["dusk"]]}', "false")) == []
+    text = home('["dusk", "dim", "day"]', '["dusk", "boil", "day"]')
+    text = text.replace('["on", true, "dim", "off"]', '["on", true, "dim", "off"], ["on", ["dusk"], "dim", "on"]')
+    message = (
+        'if this guard holds, the environment has no step on "dim", so behaviour "lamp" (service "ceiling")'
+        " never takes this step"
+    )
+    stuck = 'the target can go no further in "served", and isn\'t final there: if the environment is in "dusk",'
+    stuck += ' the environment has no step on "dim"; the way there: brighten, boil, pour'
+    assert warnings(text) == [f'["day", "dim", "day"]: {stuck}', f'["dusk"]: {message}']
+
+
+def test_services_that_never_serve() -> None:
+    stone = '{"name": "stone", "states": ["x"], "start": "x", "final": ["x"], "steps": []}, {'
+    text = home('"behaviours": [\n    {', '"behaviours": [\n    ' + stone)
+    text = text.replace('"services": [', '"services": [{"name": "rock", "behaviour": "stone"},')
+    only(text, '"rock"', 'service "rock" can never serve a request')
+
+
+def test_finals_that_services_have_not() -> None:
+    text = home('"final": ["off"]', '"final": []')
+    message = 'the target may be left in "quiet", and service "ceiling" can never be in a final state'
+    only(text, '"ceiling"', message)
+    text = text.replace('"roman": 1', '"roman": 2')
+    lamp = '"ceiling", "behaviour": "lamp"'
+    assert warnings(text.replace(lamp, lamp + ', "rests": false')) == []
+
+
+def test_a_target_that_stops() -> None:
+    text = home(
+        '["quiet", true, "brighten", "bright"]',
+        '["quiet", true, "brighten", "bright"], ["bright", true, "pour", "stuck"]',
+    )
+    text = text.replace('"states": ["quiet",', '"states": ["stuck", "quiet",')
+    message = 'the target can go no further in "stuck", and isn\'t final there: no step leaves it'
+    message += "; the way there: brighten, pour"
+    only(text, '"stuck"', message)
+
+
+def test_more_cells_than_the_limit() -> None:
+    text = home('"roman": 1', '"roman": 1, "limit": 575')
+    message = (
+        "the target, the environment, the services and the actions make 4 × 2 × 3·2·3 × 4 = 576 cells,"
+        ' and the limit is 575; write "limit": 600'
+    )
+    only(text, "575", message)
+    assert warnings(text.replace("575", "576")) == []
+
+
+# The words, the statuses, and the forms in which it is shown.
+
+
+WRONG = sample("home").replace('"start": "day"', '"start": "dya"')
+
+
+def shown(*words: str) -> "subprocess.CompletedProcess[str]":
+    return tool("roman-lint", *words)
+
+
+def test_what_is_shown() -> None:
+    write("s.json", WRONG)
+    done = shown("s.json")
+    assert (done.returncode, done.stderr) == (3, "")
+    assert done.stdout == (
+        's.json:6:14: error: "dya" is no state of the environment; did you mean "day"?\n'
+        '      "start": "dya",\n'
+        "               ^~~~~\n"
+        "1 error, 0 warnings\n"
+        "roman says: refused s.json unknown environment 0 start 0\n"
+    )
+
+
+def test_statuses() -> None:
+    write("s.json", WRONG)
+    write("warned.json", sample("home").replace('"roman": 1', '"roman": 1, "limits": 1'))
+    write("good.json", sample("home"))
+    cases: list[tuple[int, list[str]]] = [
+        (3, ["s.json"]),
+        (3, ["--strict", "s.json"]),
+        (0, ["warned.json"]),
+        (1, ["--strict", "warned.json"]),
+        (0, ["--strict", "good.json"]),
+        (5, ["gone.json"]),
+        (5, ["."]),
+        (2, []),
+    ]
+    for status, words in cases:
+        assert shown(*words).returncode == status
+
+
+def test_the_program_has_the_last_word() -> None:
+    write("good.json", sample("flaky"))
+    assert "\nroman says: answer none\n" in shown("good.json").stdout
+    assert "isn't here" in shown("--no-program", "good.json").stdout
+    assert "can't be called" in shown("--program", "./gone", "good.json").stdout
+
+
+def test_json() -> None:
+    write("s.json", WRONG)
+    value = json.loads(shown("--json", "s.json").stdout)
+    (found,) = value["findings"]
+    assert (found["line"], found["column"], found["endLine"], found["endColumn"]) == (6, 14, 6, 19)
+    assert (found["file"], found["severity"]) == ("s.json", "error")
+    assert found["refusal"] == value["roman"]
+
+
+def test_bytes_that_are_no_text() -> None:
+    for data in (b"\xff", b'{"a": "\xff\x00"}', b'{"\\ud800": 1, "roman": 4}', b""):
+        Path("s.json").write_bytes(data)
+        done = shown("s.json")
+        assert (done.returncode, done.stderr) == (3, "")
+        assert shown("--json", "s.json").returncode == 3
+
+
+# Documents with random faults: an error exactly where the program refuses, the first one the same.
+
+
+def test_an_error_where_the_program_refuses() -> None:
+    refused: list[str] = []
+
+    @many_documents
+    @given(broken=broken_documents())
+    def compare(broken: Broken) -> None:
+        broken.write(Path("."))
+        words = [PROGRAM, "synth", "broken.json"]
+        done = subprocess.run(words, capture_output=True, text=True, timeout=60, check=False)
+        checker = read("broken.json")
+        found = all_findings(checker)
+        errors = [each for each in found if each.level is Level.ERROR]
+        if done.returncode == 5:
+            assert errors != []
+            return
+        said = done.stdout.rstrip("\n") if done.returncode == 3 else ""
+        assert (str(checker.findings[0].refusal) if checker.findings else "") == said
+        assert bool(errors) == (done.returncode == 3)
+        for each in found:
+            json.dumps(each.value()).encode()
+            "\n".join(each.shown()).encode()
+        refused.extend([said] if said else [])
+
+    compare()
+    assert len(refused) > 100

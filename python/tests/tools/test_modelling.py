@@ -11,6 +11,8 @@ import pytest
 from roman_tools.documents import read
 from roman_tools.findings import Finding
 from roman_tools.lint import lint
+from roman_tools.pictures import WRONG, html
+from roman_tools.system_picture import note
 
 from .shell import CELL, SHORT, edited, tool
 
@@ -19,7 +21,7 @@ def marked(finding: Finding) -> str:
     return finding.span.source.text[finding.span.start : finding.span.end]
 
 
-# The cell, and ten mistakes in it.
+# The cell, and mistakes in it.
 
 
 def test_the_cell_has_a_composition_and_its_replies() -> None:
@@ -43,6 +45,13 @@ MISTAKES: dict[str, tuple[tuple[str, str], str, str]] = {
         'warning: the target can go no further in "after-pick", and isn\'t final there: if the environment is in'
         ' "lit-held-ok", the guard of "place" doesn\'t hold; the way there: light, bring, stop, look, pick'
         " (and 6 that follow from it)",
+    ),
+    "a guard of the plan, as the drawing shows it": (
+        ('"place", "screw", "ship"', '"place", {"do": "screw", "when": "seen = bad"}, "ship"'),
+        '"seen = bad"',
+        'warning: the target can go no further in "after-place", and isn\'t final there: if the environment is in'
+        ' "lit-bench-ok", the guard of "screw" doesn\'t hold; the way there: light, bring, stop, look, pick, place'
+        " (and 2 that follow from it)",
     ),
     "an action of the plan with two letters changed": (
         ('"place", "screw", "ship"', '"plase", "screw", "ship"'),
@@ -102,6 +111,26 @@ def test_the_first_line_names_the_cause_and_its_place(mistake: str, folder: Path
     assert done.returncode == (3 if line.startswith("error") else 4 if "limit" in line else 0)
 
 
+@pytest.mark.parametrize("mistake", MISTAKES)
+def test_the_drawing_names_the_cause_and_its_place(mistake: str, folder: Path) -> None:
+    edit, _, line = MISTAKES[mistake]
+    Path("cell.json").write_text(edited(CELL, edit), encoding="utf-8")
+    first = lint("cell.json")[0]
+    done = tool("roman-draw", "cell.json", "--dot")
+    if done.returncode == 0:
+        assert re.search(f'<FONT COLOR="{WRONG}"[^>]*>{re.escape(html(note(first)))}</FONT>', done.stdout)
+    else:
+        assert done.stderr == f"roman-draw: cell.json:{first.span.place[0]}:{first.span.place[1]}: {line}\n"
+
+
+def test_the_drawing_shows_a_guard_as_it_is_written_and_that_it_is_wrong(folder: Path) -> None:
+    edit, _, _ = MISTAKES["a guard of the plan, as the drawing shows it"]
+    Path("cell.json").write_text(edited(CELL, edit), encoding="utf-8")
+    (arrow,) = re.findall('"t0 after-place" -> .*', tool("roman-draw", "cell.json", "--dot").stdout)
+    assert "[seen = bad]" in arrow
+    assert f'color="{WRONG}" style=dashed' in arrow
+
+
 # The recipes.
 
 
@@ -109,7 +138,7 @@ def answer(document: Any) -> str:
     """What the program answers to a short document: `composition` or `none`."""
     Path("s.json").write_text(json.dumps(document), encoding="utf-8")
     checker = read("s.json")
-    assert checker.system is not None, [each.heading for each in checker.findings]
+    assert checker.document is not None, [each.heading for each in checker.findings]
     found = re.findall("^roman says: answer (.*)$", tool("roman-lint", "s.json").stdout, re.M)
     assert len(found) == 1
     return str(found[0])

@@ -2,8 +2,9 @@
 
 import os
 import subprocess
-import unittest
 from typing import Any
+
+import pytest
 
 from . import PROGRAM, TOP
 
@@ -25,34 +26,32 @@ def tool(name: str, system: str, output: Any) -> tuple[int, str]:
     return done.returncode, done.stderr.decode()
 
 
-class Ends(unittest.TestCase):
-    def test_a_reader_that_went_away(self) -> None:
-        """They end without a word, as other filters do."""
-        for name in TOOLS:
-            with self.subTest(name):
-                reader, writer = os.pipe()
-                os.close(reader)
-                with os.fdopen(writer, "wb") as output:
-                    self.assertEqual(tool(name, "samples/home.json", output), (7, ""))
-
-    def test_a_full_disk(self) -> None:
-        for name in TOOLS:
-            with self.subTest(name), open("/dev/full", "wb") as output:
-                said = f"{name}: what it writes can't be written: No space left on device\n"
-                self.assertEqual(tool(name, "samples/home.json", output), (7, said))
-
-    def test_what_can_not_be_read_is_named(self) -> None:
-        for name in TOOLS:
-            for system, why in (
-                ("samples", "Is a directory"),
-                ("gone", "No such file or directory"),
-                ("/proc/self/mem", "Input/output error"),
-            ):
-                with self.subTest(name, system=system):
-                    status, said = tool(name, system, subprocess.DEVNULL)
-                    self.assertEqual(status, 1 if name == "roman-draw" else 5)
-                    self.assertTrue(said.endswith(f"{name}: {system}: {why}\n"), said)
+@pytest.mark.parametrize("name", TOOLS)
+def test_a_reader_that_went_away(name: str) -> None:
+    """They end without a word, as other filters do."""
+    reader, writer = os.pipe()
+    os.close(reader)
+    with os.fdopen(writer, "wb") as output:
+        assert tool(name, "samples/home.json", output) == (7, "")
 
 
-if __name__ == "__main__":
-    unittest.main()
+@pytest.mark.parametrize("name", TOOLS)
+def test_a_full_disk(name: str) -> None:
+    with open("/dev/full", "wb") as output:
+        said = f"{name}: what it writes can't be written: No space left on device\n"
+        assert tool(name, "samples/home.json", output) == (7, said)
+
+
+@pytest.mark.parametrize("name", TOOLS)
+@pytest.mark.parametrize(
+    "system, why",
+    [
+        ("samples", "Is a directory"),
+        ("gone", "No such file or directory"),
+        ("/proc/self/mem", "Input/output error"),
+    ],
+)
+def test_what_can_not_be_read_is_named(name: str, system: str, why: str) -> None:
+    status, said = tool(name, system, subprocess.DEVNULL)
+    assert status == (1 if name == "roman-draw" else 5)
+    assert said.endswith(f"{name}: {system}: {why}\n"), said

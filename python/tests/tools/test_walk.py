@@ -5,9 +5,9 @@ from pathlib import Path
 
 import pytest
 
+from roman_client import Document
 from roman_tools import cautions
 from roman_tools.lint import lint
-from roman_tools.systems import System
 from roman_tools.walk import Walk
 
 from . import TOP
@@ -111,7 +111,7 @@ def test_the_effort_for_consequences_is_bounded(folder: Path, monkeypatch: pytes
     walks: list[object] = []
     begin = Walk.__init__
 
-    def count(walk: Walk, of: System) -> None:
+    def count(walk: Walk, of: Document) -> None:
         walks.append(walk)
         begin(walk, of)
 

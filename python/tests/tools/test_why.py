@@ -18,7 +18,9 @@ def test_lint_says_the_first_step(stuck_cell: str) -> None:
     out = tool("roman-lint", stuck_cell).stdout
     assert "\nroman says: answer none\nwhy: target start, environment dark-none-nothing; " in out
     assert "\n  nobody has a choice: light by lamp, bring by conveyor\n" in out
-    assert out.splitlines()[-1].startswith("the rest: roman-draw cell.json --why --text")
+    rest, help_of = out.splitlines()[-2:]
+    assert rest.startswith("the rest: roman-draw cell.json --why --text")
+    assert help_of == "what would help: roman-mend cell.json"
 
 
 def test_the_explanation_folds_chains_without_a_choice(stuck_cell: str) -> None:

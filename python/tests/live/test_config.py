@@ -1,8 +1,8 @@
 """Home files, and what is wrong with them."""
 
-import tempfile
-import unittest
 from pathlib import Path
+
+import pytest
 
 from roman_live.config import CommandReach, HomeFile, HomeFileError, HttpReach, MqttReach, PolicyName, PythonReach, Tls
 from roman_live.limits import Limits
@@ -131,63 +131,59 @@ WRONG = (
 )
 
 
-class HomeFiles(unittest.TestCase):
-    def setUp(self) -> None:
-        folder = tempfile.TemporaryDirectory()
-        self.addCleanup(folder.cleanup)
-        self.folder = Path(folder.name)
-        (self.folder / "token").write_text(f"{TOKEN}\nmore\n", encoding="utf-8")
-        (self.folder / "token").chmod(0o600)
-        (self.folder / "empty").write_text("\n", encoding="utf-8")
-
-    def read(self, text: str) -> HomeFile:
-        file = self.folder / "home.toml"
-        file.write_text(text, encoding="utf-8")
-        return HomeFile.read(file)
-
-    def test_what_it_says(self) -> None:
-        home = self.read(GOOD)
-        self.assertEqual(home.document, self.folder / "home.json")
-        self.assertEqual((home.program, home.program_seconds), ("/opt/roman", 30.0))
-        self.assertEqual(home.policy.choose, PolicyName.LEAST_WORST)
-        self.assertEqual(home.policy.costs, self.folder / "home.costs")
-        self.assertEqual(home.policy.requests, 12)
-        self.assertEqual(home.journal, self.folder / "state/journal")
-        self.assertEqual((home.page.host, home.page.port, home.page.token), ("0.0.0.0", 81, TOKEN))
-        self.assertEqual(home.limits, Limits(500, 65, 20, 50, 5.0, 2.5))
-        assert home.mqtt is not None
-        self.assertEqual((home.mqtt.host, home.mqtt.port, home.mqtt.prefix), ("broker", 1884, "house"))
-        self.assertEqual((home.mqtt.username, home.mqtt.password), ("me", TOKEN))
-        self.assertEqual(
-            {name: entry.reach for name, entry in home.devices.items()},
-            {
-                "window": MqttReach("w/ask", "w/answer"),
-                "ceiling": HttpReach("http://10.0.0.2/lamp"),
-                "kettle": CommandReach(("./kettle", "-q"), True, self.folder, True),
-                "fan": PythonReach("things.fans", "fan", self.folder),
-            },
-        )
-        window, fan = home.devices["window"], home.devices["fan"]
-        self.assertEqual((window.seconds, window.repeat, window.reached), (2.5, True, "mqtt"))
-        self.assertEqual((fan.seconds, fan.repeat, fan.late_is_doubt, fan.poll), (None, False, False, None))
-
-    def test_a_broker_over_tls(self) -> None:
-        home = self.read('document = "h"\n[mqtt]\nhost = "broker"\ntls = {}')
-        assert home.mqtt is not None
-        self.assertEqual((home.mqtt.port, home.mqtt.tls), (8883, Tls()))
-
-    def test_what_is_wrong_is_named(self) -> None:
-        for text, expected in WRONG:
-            with self.subTest(text):
-                with self.assertRaises(HomeFileError) as caught:
-                    self.read(text)
-                self.assertIn(expected, str(caught.exception))
-                self.assertIn("home.toml: ", str(caught.exception))
-
-    def test_no_file(self) -> None:
-        with self.assertRaisesRegex(HomeFileError, "none.toml: No such file"):
-            HomeFile.read(self.folder / "none.toml")
+@pytest.fixture
+def folder(tmp_path: Path) -> Path:
+    """A folder with the files that a home file names."""
+    (tmp_path / "token").write_text(f"{TOKEN}\nmore\n", encoding="utf-8")
+    (tmp_path / "token").chmod(0o600)
+    (tmp_path / "empty").write_text("\n", encoding="utf-8")
+    return tmp_path
 
 
-if __name__ == "__main__":
-    unittest.main()
+def read(folder: Path, text: str) -> HomeFile:
+    file = folder / "home.toml"
+    file.write_text(text, encoding="utf-8")
+    return HomeFile.read(file)
+
+
+def test_what_it_says(folder: Path) -> None:
+    home = read(folder, GOOD)
+    assert home.document == folder / "home.json"
+    assert (home.program, home.program_seconds) == ("/opt/roman", 30.0)
+    assert home.policy.choose == PolicyName.LEAST_WORST
+    assert home.policy.costs == folder / "home.costs"
+    assert home.policy.requests == 12
+    assert home.journal == folder / "state/journal"
+    assert (home.page.host, home.page.port, home.page.token) == ("0.0.0.0", 81, TOKEN)
+    assert home.limits == Limits(500, 65, 20, 50, 5.0, 2.5)
+    assert home.mqtt is not None
+    assert (home.mqtt.host, home.mqtt.port, home.mqtt.prefix) == ("broker", 1884, "house")
+    assert (home.mqtt.username, home.mqtt.password) == ("me", TOKEN)
+    assert {name: entry.reach for name, entry in home.devices.items()} == {
+        "window": MqttReach("w/ask", "w/answer"),
+        "ceiling": HttpReach("http://10.0.0.2/lamp"),
+        "kettle": CommandReach(("./kettle", "-q"), True, folder, True),
+        "fan": PythonReach("things.fans", "fan", folder),
+    }
+    window, fan = home.devices["window"], home.devices["fan"]
+    assert (window.seconds, window.repeat, window.reached) == (2.5, True, "mqtt")
+    assert (fan.seconds, fan.repeat, fan.late_is_doubt, fan.poll) == (None, False, False, None)
+
+
+def test_a_broker_over_tls(folder: Path) -> None:
+    home = read(folder, 'document = "h"\n[mqtt]\nhost = "broker"\ntls = {}')
+    assert home.mqtt is not None
+    assert (home.mqtt.port, home.mqtt.tls) == (8883, Tls())
+
+
+@pytest.mark.parametrize("text, expected", WRONG)
+def test_what_is_wrong_is_named(folder: Path, text: str, expected: str) -> None:
+    with pytest.raises(HomeFileError) as caught:
+        read(folder, text)
+    assert expected in str(caught.value)
+    assert "home.toml: " in str(caught.value)
+
+
+def test_no_file(folder: Path) -> None:
+    with pytest.raises(HomeFileError, match="none.toml: No such file"):
+        HomeFile.read(folder / "none.toml")
