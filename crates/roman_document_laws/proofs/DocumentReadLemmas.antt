@@ -7,7 +7,7 @@ use Rattle.roman_document_laws.proofs.PartReadLemmas.{counted_exact}
 use Rattle.roman_library.specs.Documents.{listed_step}
 use Rattle.roman_library.specs.declared.refusal.Part.TheVariants as part
 
--- with the document and the part in its refusal
+-- an exact reading stays exact with the document and the part in its refusal
 exact_placed : {X : Type 0} (document : List ℕ) (part : Part) (r : Result X PartError) (Is : X → Type 0) (Breaks : PartError → Type 0) → IsExact r Is Breaks →
     IsExact (placed document part r) Is (λ e. (why : PartError) × Breaks why × (e ≡ refusal_of document part why))
 exact_placed document part (Ok x) Is Breaks exact = grind (arith, same_ok)

@@ -17,7 +17,7 @@ target_said : (texts : Texts) (document : List ℕ) (library : PlainLibrary) →
 unfolding target_in part_of file_of
 target_said texts document library env is = ap (placed document (part.Target 0)) (parts_said.target library.environment library.target env is)
 
--- in version 2 the parts are those that were written
+-- in version 2 the parts are the written ones
 said_as_they_stand : (texts : Texts) (document : List ℕ) (library : PlainLibrary) → IsSayableEnv library.environment → IsSayableTarget library.environment library.target →
     parts_in texts document 2 library.environment library.catalogue (library_value library)
     ≡ Ok (record { environment = library.environment; catalogue = library.catalogue; target = library.target })

@@ -6,12 +6,12 @@ same_err d e h = cc
 
 -- Exact readings
 
--- the reading gives exactly the values of which `Is` is true, and is refused exactly by the errors of which `Breaks` is true
+-- the reading gives exactly the values for which `Is` holds, and is refused exactly by the errors for which `Breaks` holds
 pub record IsExact {X E : Type 0} (r : Result X E) (Is : X → Type 0) (Breaks : E → Type 0) : Type 0 where
   pub gives : (x : X) → (r ≡ Ok x) ↔ Is x
   pub refuses : (e : E) → (r ≡ Err e) ↔ Breaks e
 
--- the same, where the properties are said in other words
+-- the same for equivalent properties
 pub exact_as : {X E : Type 0} (r : Result X E) (Is More : X → Type 0) (Breaks Fails : E → Type 0) → IsExact r Is Breaks → ((x : X) → Is x ↔ More x) → ((e : E) → Breaks e ↔ Fails e) → IsExact r More Fails
 exact_as r Is More Breaks Fails exact value refusal = grind arith
 
@@ -29,7 +29,7 @@ pub exact_then : {X Y E : Type 0} (r : Result X E) (f : X → Result Y E) (Is : 
     ((x : X) → Is x → IsExact (f x) (More x) (Fails x)) → IsExact (r >>= f) (λ y. (x : X) × Is x × More x y) (λ e. Breaks e ⊎ ((x : X) × Is x × Fails x e))
 exact_then {X} {Y} {E} r f Is Breaks More Fails first next = grind (arith, bind_ok, bind_err)
 
--- the same, where the refusals of the second reading don't depend on the first value
+-- the same, if the refusals of the second reading don't depend on the first value
 pub exact_and : {X Y E : Type 0} (r : Result X E) (f : X → Result Y E) (Is : X → Type 0) (Breaks : E → Type 0) (More : X → Y → Type 0) (Fails : E → Type 0) → IsExact r Is Breaks →
     ((x : X) → Is x → IsExact (f x) (More x) Fails) → IsExact (r >>= f) (λ y. (x : X) × Is x × More x y) (λ e. Breaks e ⊎ (((x : X) × Is x) × Fails e))
 exact_and r f Is Breaks More Fails first next =
@@ -114,7 +114,7 @@ module _ {X E : Type 0} (step : ℕ → List X → Data → Result (List X) E) (
   fault_at i before (d ∷ ds) fault behind (x ∷ xs) e at are breaks = grind (arith, length_push, append_assoc, (((ok i before d at).gives (before ++ x ∷ [])).1 (x, refl, are.0)), (fault_at (i + 1) (before ++ x ∷ []) ds fault behind xs e))
   fault_at _ _ _ _ _ _ _ _ are _ = absurd are
 
-  -- from the beginning of the list
+  -- the steps from the beginning of the list
   pub all_exact : (ds : List Data) → IsExact (each_item step 0 [] (items_of ds)) (AreItems Is [] ds) (FaultIn Is Breaks [] ds)
   all_exact ds = record {
     gives = λ xs. grind (arith, (each_gives 0), (each_given 0));

@@ -29,7 +29,7 @@ texts_are (n ∷ ns) = (refl, texts_are ns)
 
 -- Lists of items
 
--- written values are read as items, where each is read whatever comes before it
+-- written values are read as items, if each is read as its value after any items
 are_each : {X : Type 0} (Is : List X → Data → X → Type 0) (value : X → Data) (before xs : List X) → ((before : List X) (x : X) → IsIn x xs → Is before (value x) x) → AreItems Is before (map value xs) xs
 are_each Is value before [] each = tt
 are_each Is value before (x ∷ xs) each = (each before x (inl refl), are_each Is value (before ++ x ∷ []) xs (λ b y i. each b y (inr i)))
@@ -138,7 +138,7 @@ env_said env is =
     ∙ ap (λ (e : Env). Ok (record { states = env.states; actions = env.actions; env = e }))
     (ap normal_env (λ k. record { states = is.state_count k; actions = is.action_count k; start = env.env.start; triples = env.env.triples }) ∙ normal_env_is _ is.known is.form)
 
--- a step in range is read as itself, whatever comes before it
+-- a step in range is read as itself, after any items
 move_said : (env : NamedEnv) (states : List (List ℕ)) (b : Beh) (i : ℕ) (x : Move) → IsSayableEnv env → HasNoRepeats states → length states ≡ b.states → IsOver env.env.states env.env.actions b → IsNormalBeh b → IsIn x b.steps →
     IsMoveItem env.states env.actions states i (move_value env.states env.actions states x) x
 move_said env states b i x env_is once count over form j =

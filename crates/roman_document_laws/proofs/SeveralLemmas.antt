@@ -1,4 +1,4 @@
--- Documents with several targets: what was read can be stated, and the written value means the library that combines the targets.
+-- Documents with several targets: parts that were read can be stated, and the written value means the library that combines the targets.
 use Rattle.roman_document_laws.proofs.Common.{AcceptedSeveralCanBeSaid, AreItems, AreSayable, Data, Err, HasNoRepeats, IsIn, IsSayableEnv, IsSayableTarget, IsTrue, List, MAX_BEHAVIOURS, Named, NamedBeh, NamedEnv, None, Ok, PlainCombined, PlainLibrary, PlainTargets, Refusal, Service, SeveralAreSaid, Texts, [], ap, arith, as_object, bind_ok, check, check_is, codes, combined_behaviour, combined_of, combined_parts, counted_items, each_item, file_of, forbidding, from_map, from_push, in_append_left, in_map, in_push, inl, inr, is_name, is_none, is_some, items_of, length, length-map, libraries_known, library_in, list_value, listed_in, map, map_push, member_of, name_of, named_target_of, named_target_value, new_name_of, none_absent, none_is, part_of, parts_in, place_of, placed, placed_is, refl, requests_in, same_ok, several_value, subst, sym, target_name, target_of, target_step, targets_combined, targets_in, version_of, ℕ, ◌++◌, ◌↔◌, ◌∷◌, ◌≡◌, ◌≤◌}
 use Rattle.roman_library.specs.Documents.{listed_step}
 use Rattle.roman_read.specs.declared.rules.Kind.TheVariants as kind
@@ -26,7 +26,7 @@ module _ (texts : Texts) (document : List ℕ) (env : NamedEnv) where
   pub targets_each : (ds : List Data) (xs : List Named) → (each_item (target_step texts document env) 0 [] (items_of ds) ≡ Ok xs) ↔ AreItems IsTargetItem [] ds xs
   targets_each ds xs = (all_exact (target_step texts document env) IsTargetItem BreaksTarget targets_step ds).gives xs
 
-  -- written
+  -- Targets that are written
 
   target_item_said : (before : List Named) (named : Named) → IsSayableEnv env → IsTrue (is_name named.name) × IsSayableTarget env named.target → (IsIn named.name (map target_name before) → ⊥) →
       IsTargetItem before (named_target_value env named) named
@@ -54,7 +54,7 @@ module _ (texts : Texts) (document : List ℕ) (env : NamedEnv) where
       ((counted_exact list.Targets (codes "targets") 2 4 (λ n. (2 ≤ n) × (n ≤ 4)) (λ n. (λ h. h, λ h. h)) d).gives (items_of ds)).1 (rw listed_items (record { value = list_value ds; there = at; list = refl }, (omega (arith, some, many), omega (arith, few, many)))) in
       rw counted ((targets_each ds targets).1 (are_targets [] targets env_is is once (λ x i none. none)))
 
-  -- read
+  -- Targets that were read
 
   target_item_can : (before : List Named) (d : Data) (x : Named) → IsTargetItem before d x → (IsTrue (is_name x.name) × IsSayableTarget env x.target) × (IsIn x.name (map target_name before) → ⊥)
   unfolding IsTargetItem listed_in named_target_of new_name_of
@@ -128,7 +128,7 @@ few_parts env catalogue targets library parts few =
     let same : map (combined_behaviour env (requests_in env targets)) catalogue ≡ library.catalogue = ap (λ (m : PlainCombined). m.catalogue) parts in
     omega (arith, few, ap length same, length-map catalogue (combined_behaviour env (requests_in env targets)))
 
--- what an accepted document with several targets names can be stated
+-- a document can state the parts and targets that an accepted document with several targets names
 pub accepted_several : AcceptedSeveralCanBeSaid
 accepted_several texts document library said h names =
     let is = targets_combined texts document library said h names in

@@ -1,4 +1,4 @@
--- What is read of accepted documents: distinct names, and parts that the writer can state.
+-- Properties of accepted documents: distinct names, and parts that a document can state.
 use Rattle.std.specs.Prelude.{◌≡◌, ℕ, List, map, Ok, IsTrue}
 use Rattle.serde_json.specs.Data.{Data}
 use Rattle.roman_io.specs.Shelf.{Texts}
@@ -15,7 +15,7 @@ use Rattle.roman_document_laws.specs.PartWriter.{IsSayableEnv, IsSayableBeh, IsS
 use Rattle.roman_document_laws.specs.DocumentWriter.{IsSayable}
 use Rattle.roman_document_laws.specs.SeveralWriter.{AreSayable}
 
--- no name stands for two actions, states, behaviours or services, the services have valid names, and the target is deterministic
+-- no name is used for two actions, states, behaviours or services, the services have valid names, and the target is deterministic
 pub record HasClearNames (library : PlainLibrary) : Type 0 where
   pub actions : HasNoRepeats library.environment.actions
   pub environment : HasNoRepeats library.environment.states
@@ -41,7 +41,7 @@ abbrev pub AcceptedCanBeSaid : Type 0
 AcceptedCanBeSaid =
     (texts : Texts) (document : List ℕ) (library : PlainLibrary) → library_of texts document ≡ Ok library → ((said : PlainTargets) → NamesTargets texts document said → ⊥) → IsSayable library
 
--- a document can state what each accepted document with several targets names, with the services and the limit of its library
+-- a document can state the parts and targets that each accepted document with several targets names, with the services and the limit of its library
 abbrev pub AcceptedSeveralCanBeSaid : Type 0
 AcceptedSeveralCanBeSaid =
     (texts : Texts) (document : List ℕ) (library : PlainLibrary) (said : PlainTargets) → library_of texts document ≡ Ok library → NamesTargets texts document said →

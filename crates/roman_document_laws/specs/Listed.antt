@@ -18,7 +18,7 @@ pub record IsListAt (d : Data) (name : List ℕ) (ds : List Data) : Type 0 where
 abbrev pub MissesList : Data → List ℕ → Miss → Type 0
 MissesList d name miss = (member_of d name ≡ Err miss) ⊎ ((value : Data) × (member_of d name ≡ Ok value) × (list_of value ≡ Err miss))
 
--- the items are read as these values in order, where `Is` relates an item to its value after the values before it
+-- the items are read as these values in order; `Is` relates an item to its value after the values before it
 abbrev pub AreItems : {X : Type 0} → (List X → Data → X → Type 0) → List X → List Data → List X → Type 0
 AreItems Is before [] [] = Unit {0}
 AreItems Is before [] (x ∷ xs) = ⊥

@@ -46,7 +46,7 @@ pub record IsPlace (names : List (List ℕ)) (d : Data) (k : ℕ) : Type 0 where
   pub there : slice_get names k ≡ Some name
   pub first : (j : ℕ) → j < k → slice_get names j ≡ Some name → ⊥
 
--- the first rule that an item breaks where one of the names is expected: it isn't a text, or is none of the names
+-- the first rule that an item breaks if one of the names is expected: it isn't a text, or isn't one of the names
 abbrev pub BreaksPlace : List (List ℕ) → Place → ℕ → Data → PartError → Type 0
 BreaksPlace names list i d e = IsNoText list i d e ⊎ ((text : List ℕ) × (text_of d ≡ Ok text) × (IsIn text names → ⊥) × (e ≡ Refused Unknown list i))
 
@@ -72,7 +72,7 @@ pub record IsTripleItem (states actions : List (List ℕ)) (d : Data) (x : Tripl
 abbrev pub HasPlace : List (List ℕ) → Data → Type 0
 HasPlace names d = (k : ℕ) × IsPlace names d k
 
--- the first rule that a step of an environment breaks: it isn't a list of three items, or the first faulty item from the left isn't a text or names nothing
+-- the first rule that a step of an environment breaks: it isn't a list of three items, or the first faulty item from the left isn't a text or isn't one of the names
 abbrev pub BreaksTriple : List (List ℕ) → List (List ℕ) → ℕ → List Triple → Data → PartError → Type 0
 BreaksTriple states actions i before d e =
     IsNoRow 3 i d e

@@ -33,7 +33,7 @@ places_value names ks = list_value (map (place_value names) ks)
 abbrev pub triple_value : List (List ℕ) → List (List ℕ) → Triple → Data
 triple_value states actions x = list_value (place_value states x.from ∷ place_value actions x.action ∷ place_value states x.to ∷ [])
 
--- the value of a step of a behaviour or a target, where the guard is the list of its states
+-- the value of a step of a behaviour or a target; the guard is written as the list of its states
 abbrev pub move_value : List (List ℕ) → List (List ℕ) → List (List ℕ) → Move → Data
 move_value env_states actions states x =
     list_value (place_value states x.from ∷ places_value env_states x.guard ∷ place_value actions x.action ∷ place_value states x.to ∷ [])

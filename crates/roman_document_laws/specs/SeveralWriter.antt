@@ -43,7 +43,7 @@ combined_library said services limit =
     let made = combined_parts said.environment said.catalogue said.targets in
     record { environment = made.environment; catalogue = made.catalogue; services = services; target = made.target; limit = limit }
 
--- a document can state the targets with these services and limit: it can state each part, no name stands for two, and no rule forbids the combination
+-- a document can state the targets with these services and limit: it can state each part, no name is used twice, and no rule forbids the combination
 pub record AreSayable (said : PlainTargets) (present : List Service) (most : ℕ) : Type 0 where
   pub environment : IsSayableEnv said.environment
   pub catalogue : (b : NamedBeh) → IsIn b said.catalogue → IsSayableBeh said.environment b

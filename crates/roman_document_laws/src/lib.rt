@@ -1,11 +1,11 @@
-//! Laws for readers: what documents and the normal forms of their parts mean, said by properties
-//! alone. The crate depends on the definitions of documents, and the program doesn't depend on it. Each
-//! law is the contract of a function that computes nothing.
+//! Laws for readers, which characterise documents and the normal forms of their parts by properties
+//! alone. The crate depends on the definitions of documents, and the program doesn't depend on it.
+//! Each law is the contract of a function that computes nothing.
 //!
-//! `specs/Normals` has the properties of normal forms. `specs/Listed` has lists whose items are read
-//! one by one, `specs/PartReads` the lists of parts, and `specs/DocumentReads` those of documents.
-//! `specs/PartWriter`, `specs/DocumentWriter` and `specs/SeveralWriter` have a writer, which is only a
-//! definition. `specs/Accepted` has what is known of accepted documents.
+//! `specs/Normals` has the properties of normal forms. `specs/Listed` has lists whose items are
+//! read one by one, `specs/PartReads` the lists of parts, and `specs/DocumentReads` those of
+//! documents. `specs/PartWriter`, `specs/DocumentWriter` and `specs/SeveralWriter` have a writer,
+//! which is only a definition. `specs/Accepted` has the properties of accepted documents.
 #![tactic(auto)]
 
 ghost use Rattle.roman_document_laws.specs.Accepted.{AcceptedCanBeSaid, AcceptedNamesAreClear, AcceptedSeveralCanBeSaid, PartsCanBeSaid};
@@ -37,8 +37,8 @@ pub fn lists_are_read()
 {}
 
 /// Each environment, behaviour, target and library within the limits of documents is the meaning of
-/// some JSON value: of the value that the definition of a writer gives. The same holds for each library
-/// that combines several targets within the limits.
+/// some JSON value, namely of the one that the writer's definition gives. The same holds for each
+/// library that combines several targets within the limits.
 #[tactic(auto, using(crate::proofs::PartWriterLemmas::parts_said, crate::proofs::DocumentWriterLemmas::libraries_said, crate::proofs::SeveralLemmas::several_said))]
 pub fn parts_are_said()
     ensures said { PartsAreSaid }
@@ -46,9 +46,10 @@ pub fn parts_are_said()
     ensures several { SeveralAreSaid }
 {}
 
-/// The converse: each environment, behaviour and target that a value means is within these limits, and
-/// so is the library of each accepted document with one target. If the document names several targets,
-/// these are within the limits, with the services and the limit of its library.
+/// The converse of [`parts_are_said`]: each environment, behaviour and target that a value means is
+/// within the limits of documents, and so is the library of each accepted document with one target.
+/// If the document names several targets, these are within the limits too, with the services and
+/// the limit of its library.
 #[tactic(auto, using(crate::proofs::AcceptedLemmas::parts_can))]
 pub fn accepted_can_be_said()
     ensures parts { PartsCanBeSaid }

@@ -1,4 +1,4 @@
--- What the proof pages of this crate cite from elsewhere, passed on from one place. Declares nothing.
+-- Re-exports the names that the proof pages of this crate use from other crates. Declares nothing.
 pub use Rattle.std.proofs.Common.{Bool, Box, Contains, Global, IsTrue, None, Some, Vec, [], add-one, ap, arith, below_more, bit_and, bit_or, cond, drop, false, filter, inl, inr, map, min, refl, rules, subst, suc, sym, true, true≢false, w64, zero, ℕ, ◌%◌, ◌&&◌, ◌*◌, ◌++◌, ◌+◌, ◌-◌, ◌<◌, ◌==◌, ◌^◌, ◌↔◌, ◌∙◌, ◌∷◌, ◌≡◌, ◌≤◌}
 pub use Rattle.std.proofs.Math.Nat.{mod-le}
 pub use Rattle.std.proofs.Math.Pow.{pow-lt}

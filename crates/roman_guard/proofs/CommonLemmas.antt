@@ -14,12 +14,12 @@ none_from : (test : ℕ → Bool) (a m : ℕ) → ((k : ℕ) → a ≤ k → k <
 none_from test a zero fails = refl
 none_from test a (suc m) fails = rw (fails a (omega arith) (omega arith)) (none_from test (a + 1) m (λ k h below. fails k (omega arith) (omega arith)))
 
--- a number that passes is the least one where no smaller number passes
+-- a number that passes is the least one if no smaller number passes
 pub least_below-found : (test : ℕ → Bool) (n e : ℕ) → e < n → test e ≡ true → ((k : ℕ) → k < e → test k ≡ false) → least_below test n ≡ Some e
 unfolding least_below
 least_below-found test n e h passes before = found_from test 0 n e (omega arith) (omega arith) passes (λ k low below. before k below)
 
--- there is no least number where none passes
+-- there is no least number if none passes
 pub least_below-none : (test : ℕ → Bool) (n : ℕ) → ((k : ℕ) → k < n → test k ≡ false) → least_below test n ≡ None
 unfolding least_below
 least_below-none test n fails = none_from test 0 n (λ k low below. fails k (omega arith))

@@ -5,7 +5,7 @@ range_more : (a n : ℕ) → range_with_len a (suc n) ≡ range_with_len a n ++ 
 range_more a zero = let e : a ≡ a + 0 = omega arith in ap (λ x. x ∷ []) e
 range_more a (suc n) = grind (arith, (range_more (a + 1) n))
 
--- n comes last where it passes
+-- n comes last if it passes
 pub states_below-suc : (test : ℕ → Bool) (n : ℕ) → states_below test (suc n) ≡ states_below test n ++ cond (test n) (n ∷ []) []
 unfolding states_below
 states_below-suc test n =
@@ -35,12 +35,12 @@ states_below-same p q (suc n) h =
       states_below-same p q n (λ e k. h e (omega arith)),
     )
 
--- no number passes where the test fails below n
+-- no number passes if the test fails below n
 pub states_below-none : (test : ℕ → Bool) (n : ℕ) → ((e : ℕ) → e < n → test e ≡ false) → states_below test n ≡ []
 states_below-none test zero h = states_below-zero test
 states_below-none test (suc n) h = rw (states_below-suc test n, h n (omega arith), states_below-none test n (λ e k. h e (omega arith)))
 
--- a higher bound adds nothing where no number from n on passes
+-- a higher bound adds nothing if no number from n on passes
 pub states_below-past : (test : ℕ → Bool) (n m : ℕ) → ((e : ℕ) → n ≤ e → test e ≡ false) → states_below test (n + m) ≡ states_below test n
 states_below-past test n zero h = let e : n + 0 ≡ n = omega arith in ap (states_below test) e
 states_below-past test n (suc m) h =
@@ -48,7 +48,7 @@ states_below-past test n (suc m) h =
     let past : n ≤ n + m = omega arith in
     rw (e, states_below-suc _ _, h (n + m) past) (append-nil (states_below test (n + m)) ∙ states_below-past _ _ _ h)
 
--- a number below n that passes is one of them
+-- a number below n that passes is in the list
 pub in_states_below : (test : ℕ → Bool) (n e : ℕ) → e < n → test e ≡ true → Contains (states_below test n) e
 in_states_below test zero e h passes = absurd (omega arith)
 in_states_below test (suc n) e h passes =
@@ -64,7 +64,7 @@ last_one true n e (zero, h, same) = (refl, sym same)
 last_one true n e (suc k, h, same) = absurd (omega arith)
 last_one false n e (k, h, same) = absurd (omega arith)
 
--- each of them is below n and passes
+-- each number in the list is below n and passes
 pub states_below_are : (test : ℕ → Bool) (n e : ℕ) → Contains (states_below test n) e → (e < n) × (test e ≡ true)
 states_below_are test zero e c = grind (arith, states_below-zero)
 states_below_are test (suc n) e c =

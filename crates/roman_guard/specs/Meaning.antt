@@ -22,7 +22,7 @@ intersection sets e = list_all (λ set. set e) sets
 abbrev pub union : List (ℕ → Bool) → ℕ → Bool
 union sets e = list_any (λ set. set e) sets
 
--- one level of a guard, where each inner guard is replaced by the set of its states
+-- one level of a guard, in which each inner guard is replaced by the set of its states
 abbrev pub holds_step : Guard-F (ℕ → Bool) → ℕ → Bool
 holds_step Guard-F.All = λ _. true
 holds_step Guard-F.Never = λ _. false

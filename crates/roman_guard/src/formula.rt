@@ -12,11 +12,11 @@ pub enum Guard {
     Never,
     /// Holds in the listed states.
     Among(Vec<u8>),
-    /// Holds where the inner guard doesn't hold.
+    /// Holds in the states in which the inner guard doesn't hold.
     Not(Box<Guard>),
-    /// Holds where each of the guards holds. An empty list holds everywhere.
+    /// Holds in the states in which all of the guards hold. An empty list holds in every state.
     Both(Vec<Guard>),
-    /// Holds where at least one of the guards holds. An empty list holds nowhere.
+    /// Holds in the states in which at least one of the guards holds. An empty list holds in no state.
     Either(Vec<Guard>),
 }
 

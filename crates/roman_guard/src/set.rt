@@ -5,8 +5,8 @@ ghost use Rattle.roman_guard.specs.Meaning.{means, has_state, states_of, has_bot
 use crate::formula::{Guard, holds_at};
 use std::marker::Model;
 
-/// A set of environment states below 64. The type is `Copy`. Contracts see the word whose bit `e` is
-/// 1 exactly where state `e` is in the set.
+/// A set of environment states below 64. The type is `Copy`. Contracts see the word whose bit `e`
+/// is 1 exactly when state `e` is in the set.
 #[derive(Clone, Copy, Debug, PartialEq, Eq)]
 pub struct StateSet {
     bits: u64,
@@ -42,7 +42,7 @@ impl StateSet {
         e < 64 && (bits >> e) & 1 == 1
     }
 
-    /// Returns the least state that both sets have, or `None` where they have no common state.
+    /// Returns the least state that both sets have, or `None` if they have no common state.
     #[tactic(auto, using(crate::proofs::CommonLemmas::commons, std::proofs::lemmas::Nat::and_le_l, crate::proofs::CommonLemmas::common_least))]
     pub fn first_common(&self, other: &StateSet) -> Option<u8>
         ensures least { result ≡ least_below (has_both self.now other.now) 64 }

@@ -1,4 +1,4 @@
--- What a call does to its sink, in words for contracts at a bound `O: Sink`.
+-- The effect of a call on its sink, for contracts at a bound `O: Sink`.
 use Rattle.std.specs.Prelude.{ℕ, List, Result}
 use Rattle.roman_io.specs.Faults.{HasCause}
 use Rattle.roman_io.specs.Sink.{Puts}

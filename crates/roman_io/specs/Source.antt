@@ -8,7 +8,7 @@ Gave None (Some new) bytes = ⊥
 Gave (Some old) None bytes = ⊥
 Gave (Some old) (Some new) bytes = old ≡ bytes ++ new
 
--- a call that had room gave n bytes, where n is 0 exactly at the end of the rest
+-- a call that had room gave n bytes, and n is 0 exactly at the end of the rest
 abbrev pub EndsAt : Option (List ℕ) → ℕ → Type 0
 EndsAt None n = Unit {0}
 EndsAt (Some rest) n = (n ≡ 0) ↔ (rest ≡ [])

@@ -24,8 +24,8 @@ impl Model for Calls {
 }
 
 impl Calls {
-    /// Returns a record of no calls. The calls whose numbers, from 0, are listed in `failing` are to
-    /// fail.
+    /// Returns a record of no calls. `failing` lists the numbers of the calls that are to fail,
+    /// from 0.
     pub fn new(failing: Vec<u64>) -> Calls
         ensures { result ≡ no_calls failing.items }
     {

@@ -2,10 +2,10 @@
 //!
 //! A [`Shelf`] has texts by name, a [`Source`] gives bytes, and a [`Sink`] takes bytes. Each object
 //! counts its faults. The count rises exactly in the calls that return [`Failed`], until it reaches
-//! `u64::MAX`. Contracts can speak of the content of an object only if its type exposes it. The
-//! objects in memory do, and adapters to a file or a terminal can't. [`Words`] has the words of a
-//! command. [`Steps`] counts work, for contracts alone. `specs/` states what each call gives and
-//! takes.
+//! `u64::MAX`. Contracts can state the content of an object only if its type exposes it. The
+//! objects in memory expose theirs, and adapters to a file or a terminal can't. [`Words`] has the
+//! words of a command. [`Steps`] counts work, for contracts alone. `specs/` defines the effect of
+//! each call.
 #![tactic(auto)]
 
 mod calls;

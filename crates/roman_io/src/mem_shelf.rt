@@ -26,9 +26,9 @@ impl Model for MemShelf {
 }
 
 impl MemShelf {
-    /// Returns a shelf with these names and texts, where the first file with a name hides later ones.
-    /// `failing` lists the numbers of the fetches that are to fail, from 0. A fetch of a name that no
-    /// file has fails too.
+    /// Returns a shelf with these names and texts. The first file with a name hides later ones.
+    /// `failing` lists the numbers of the fetches that are to fail, from 0. A fetch of a name that
+    /// no file has fails too.
     pub fn new(files: Vec<(String, Vec<u8>)>, failing: Vec<u64>) -> MemShelf
         ensures { result ≡ record { texts = texts_of files.items; calls = no_calls failing.items } }
     {

@@ -22,8 +22,8 @@ impl Model for QuietShelf {
 }
 
 impl QuietShelf {
-    /// Returns a shelf with these names and texts, where the first file with a name hides later ones.
-    /// The text of any other name is empty. The count of faults is always 0.
+    /// Returns a shelf with these names and texts. The first file with a name hides later ones. The
+    /// text of any other name is empty. The count of faults is always 0.
     pub fn new(files: Vec<(String, Vec<u8>)>) -> QuietShelf
         ensures { result ≡ texts_of files.items }
     {

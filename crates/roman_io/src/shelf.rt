@@ -6,8 +6,8 @@ ghost use Rattle.roman_io.specs.Shelf.{Fetches, Texts, shelf_text};
 use crate::failed::Failed;
 
 /// Texts by name, each shorter than 2^63 bytes. No call changes them. A shelf in memory exposes its
-/// texts to contracts. An adapter to files exposes nothing, and contracts on content then say
-/// nothing.
+/// texts to contracts. An adapter to files exposes nothing, and then contracts on content hold
+/// trivially.
 pub trait Shelf {
     /// The names with their texts, if the type exposes them. Of two texts with one name the first
     /// counts.
@@ -22,7 +22,7 @@ pub trait Shelf {
     /// exactly at or past the end of the text. The bytes of `into` after the copied ones are
     /// unspecified. A name without a text stands for the empty text, if the call doesn't fail.
     ///
-    /// Fails only where the count of faults rises.
+    /// Fails only when the count of faults rises.
     fn fetch(&mut self, name: &str, at: u64, into: &mut [u8]) -> Result<usize, Failed>
         ensures bound { IfOk result (λ n. n ≤ length into.new) }
         ensures bytes { IfSome (texts self.old) (λ ts. IfOk result (Fetches (shelf_text ts name.now) at into.new)) }

@@ -6,7 +6,7 @@ ghost use Rattle.roman_io.specs.Sink.{Puts};
 use crate::failed::Failed;
 
 /// A place to which bytes are written. A sink in memory exposes the written bytes to contracts. An
-/// adapter to the output exposes nothing, and contracts on content then say nothing.
+/// adapter to the output exposes nothing, and then contracts on content hold trivially.
 pub trait Sink {
     /// The bytes that were written, if the type exposes them.
     ghost written: { Self → Option (List ℕ) };
@@ -15,8 +15,8 @@ pub trait Sink {
     /// return [`Failed`], until it reaches `u64::MAX`.
     ghost faults: { Self → ℕ };
 
-    /// Appends the whole piece, which may have any length. Fails only where the count of faults
-    /// rises. A prefix of the piece was then appended.
+    /// Appends the whole piece, which may have any length. Fails only when the count of faults
+    /// rises, and has then appended a prefix of the piece.
     fn put(&mut self, bytes: &[u8]) -> Result<(), Failed>
         ensures puts { Puts (written self.old) (written self.new) bytes.now result }
         ensures cause { HasCause (faults self.old) (faults self.new) result };

@@ -1,5 +1,5 @@
-//! Calls each object in memory once, with calls that fail, and checks what a caller knows through a
-//! source over a shelf.
+//! Calls each object in memory once, also with calls that fail, and checks that a source over a
+//! shelf still exposes the shelf.
 ghost use Rattle.std.specs.Prelude.{◌≡◌, ◌<◌};
 ghost use Rattle.roman_io.specs.Faults.{HasCause};
 
@@ -28,8 +28,8 @@ fn take_once<S: Source>(source: &mut S, into: &mut [u8]) -> Result<usize, Failed
     source.take(into)
 }
 
-/// Reads the first bytes of a text, by a source over the shelf. The caller still knows the faults and
-/// the texts of the shelf.
+/// Reads the first bytes of a text, by a source over the shelf. The contract still states the
+/// faults and the texts of the shelf.
 fn read_prefix<F: Shelf>(shelf: &mut F, name: &str, into: &mut [u8]) -> Result<usize, Failed>
     ensures cause { HasCause (F.faults shelf.old) (F.faults shelf.new) result }
     ensures texts { F.texts shelf.new ≡ F.texts shelf.old }

@@ -1,4 +1,4 @@
-//! A sink that keeps nothing.
+//! A sink that discards its bytes.
 ghost use Rattle.std.specs.Prelude.{None, IsOk};
 ghost use Rattle.roman_io.specs.Faults.{HasCause};
 ghost use Rattle.roman_io.specs.Sink.{Puts};
@@ -6,7 +6,7 @@ ghost use Rattle.roman_io.specs.Sink.{Puts};
 use crate::failed::Failed;
 use crate::sink::Sink;
 
-/// A sink that drops all bytes that are put into it, and exposes nothing. The count of faults is
+/// A sink that discards all bytes that are put into it, and exposes nothing. The count of faults is
 /// always 0.
 #[derive(Drop)]
 pub struct Waste {}

@@ -45,7 +45,7 @@ impl Words {
         self.words.len()
     }
 
-    /// Returns the word at place `i`, from 0.
+    /// Returns the word at place `i`, from 0. Requires `i` below the number of words.
     pub fn at(&self, i: usize) -> &str
         requires { i < length self.now }
         ensures { slice_get self.now i ≡ Some result.now }

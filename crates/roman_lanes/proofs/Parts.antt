@@ -9,10 +9,10 @@ changes_block makes n at words lanes room long made = record {
   above = λ i high. get_or-put_chunk_above at words lanes i 0 (omega (arith, long));
 }
 
--- blocks and what is made of two of them, place by place
+-- blocks, and the combination of two of them, place by place
 pub ruleset chunks = (get_or-chunk, get_or-zip2, length-chunk, length-zip2)
 
--- where the bitwise or of two vectors is 0, both are 0
+-- if the bitwise or of two vectors is 0, both are 0
 either_at : (xs ys : List ℕ) (k : ℕ) → length xs ≡ length ys → get_or (zip2 bit_or xs ys) k 0 ≡ 0 → (get_or xs k 0 ≡ 0) × (get_or ys k 0 ≡ 0)
 either_at xs ys k same none = grind (arith, cases_lt, (get_or_past xs k 0), (get_or_past ys k 0), (get_or-zip2 bit_or xs ys k 0 0 0), le_or_l, le_or_r)
 

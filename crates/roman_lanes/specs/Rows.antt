@@ -6,7 +6,7 @@ use Rattle.std.specs.Int.{bit_at}
 unfoldable pub is_on : ℕ → ℕ → Bool
 is_on word lane = bit_at word lane == 1
 
--- the bit of each lane of the row is set exactly where its number passes the test, and no bit is set past the lanes
+-- the bit of each lane of the row is set exactly when its number passes the test, and no bit is set past the lanes
 pub record HasLanes (lanes row : ℕ) (test : ℕ → Bool) (word : ℕ) : Type 0 where
   pub each : (lane : ℕ) → lane < lanes → is_on word lane ≡ test (row * lanes + lane)
   pub rest : (lane : ℕ) → lanes ≤ lane → is_on word lane ≡ false

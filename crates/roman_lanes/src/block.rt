@@ -11,7 +11,7 @@ pub(crate) const LANES: usize = 16;
 /// The length of a block of words.
 pub(crate) const WORDS: usize = 32;
 
-/// Returns how many numbers of the block that begins at `at` are `value`.
+/// Counts the elements equal to `value` in the block that begins at `at`.
 pub(crate) fn equal_in(values: &[u32], at: usize, value: u32) -> u32
     requires { at + 16 ≤ length values.now }
     ensures counted { result ≡ count_by (λ x. x == value) (chunk at 16 values.now) }
@@ -33,7 +33,7 @@ pub(crate) fn is_clear(words: &[u64], at: usize) -> bool
     are_clear(either(front, back))
 }
 
-/// Returns the N words from `at` on.
+/// Returns the N words from `at` on. Requires that there are that many.
 #[inline(always)]
 #[tactic(auto, using(crate::proofs::Parts::chunks))]
 pub fn load<const N: usize>(words: &[u64], at: usize) -> Simd<u64, N>

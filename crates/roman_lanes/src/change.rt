@@ -1,13 +1,13 @@
-//! Changes that are made to each word of a slice by itself, to some neighbouring words at once.
+//! Changes of each word of a slice on its own, several neighbouring words at a time.
 //!
-//! A change has its own type, which says what becomes of a word (`Change`) and computes it for N
-//! words at once (`ChangeOf`). `change_each` goes over the slice.
+//! Each change is a type. `Change` relates a word to its new value, and `ChangeOf` computes N new
+//! words at once. `change_each` applies a change to a slice.
 ghost use Rattle.std.specs.Prelude.{◌≡◌, ℕ, ◌+◌, ◌<◌, ◌≤◌, length, slice_index};
 ghost use Rattle.roman_lanes.specs.Words.{ChangesPart};
 
 use std::simd::prelude::*;
 
-/// A change of each word of a slice by itself.
+/// A change of each word of a slice on its own.
 pub trait Change {
     /// The change can be made to slices of this length.
     ghost suits: { Self → ℕ → Type 0 };
@@ -18,7 +18,7 @@ pub trait Change {
 
 /// A change that can be made to N neighbouring words at once.
 pub trait ChangeOf<const N: usize>: Change {
-    /// Returns what becomes of `words`, which are the N words of a slice from `at` on.
+    /// Returns the new values of `words`, which are the N words of a slice from `at` on.
     fn changed(&self, words: Simd<u64, N>, at: usize) -> Simd<u64, N>
         requires { (many : ℕ) × (at + N ≤ many) × Self.suits self.now many }
         ensures long { length result ≡ N }
@@ -69,8 +69,8 @@ fn change_rest<C: ChangeOf<4> + ChangeOf<2> + ChangeOf<1>>(change: &C, words: &m
     change_if_any::<1, C>(change, words, one);
 }
 
-/// Makes the change to each word of the slice: to eight words at a time, and then to four, two and one
-/// of the rest. A slice of a single word is changed at once.
+/// Makes the change to each word of the slice: to eight words at a time, and then to four, two and
+/// one of the rest. Changes a slice of a single word directly.
 #[inline(always)]
 pub fn change_each<C: ChangeOf<8> + ChangeOf<4> + ChangeOf<2> + ChangeOf<1>>(
     change: &C,

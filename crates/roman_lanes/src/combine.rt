@@ -46,7 +46,7 @@ pub fn without<const N: usize>(words: Simd<u64, N>, other: Simd<u64, N>) -> Simd
 /// Clears the lanes that are set in the words of `other`.
 #[derive(Clone, Copy)]
 pub struct Taking<'a> {
-    /// The words whose lanes are cleared, one for each word at least.
+    /// The words with the lanes to clear, at least one for each word of the slice.
     pub other: &'a [u64],
 }
 

@@ -1,8 +1,8 @@
 //! Kernels over large slices of words and numbers, and the definitions that read words as rows of
 //! flags.
 //!
-//! Each kernel goes over the slice block by block, by `std::simd`, and then over the rest one by one.
-//! The contracts say what a plain loop would do. No call takes memory.
+//! Each kernel processes the slice in blocks, by `std::simd`, and then the rest one by one. The
+//! contracts state the result of a plain loop. No call takes memory.
 #![tactic(auto)]
 
 mod block;

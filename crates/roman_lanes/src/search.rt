@@ -4,8 +4,8 @@ ghost use Rattle.std.specs.Prelude.{◌≡◌, ◌≢◌, ℕ, ◌<◌, ◌≤�
 use crate::block::{WORDS, is_clear};
 
 /// Returns the place of the first word that isn't 0, from the place `from` on. Requires `from` at
-/// most the length of the slice. Returns `None` exactly where all words from there on are 0. Skips 32
-/// words at a time while they are all 0.
+/// most the length of the slice. Returns `None` exactly when all words from there on are 0. Skips
+/// 32 words at a time while they are all 0.
 pub fn first_set(words: &[u64], from: usize) -> Option<usize>
     requires from { from ≤ length words.now }
     ensures none { IfNone result ((i : ℕ) → from ≤ i → i < length words.now → slice_index words.now i ≡ 0) }

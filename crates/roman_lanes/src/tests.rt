@@ -1,4 +1,4 @@
-//! Compares each kernel with its plain definition, at each length up to some blocks and a rest.
+//! Compares each kernel with its plain definition, at each length up to several blocks and a rest.
 use crate::{both, count_equal, first_set, less};
 use std::test::*;
 

@@ -72,7 +72,7 @@ first_in : (ks : List ℕ) → ks ≢ [] → IsIn (first ks) ks
 first_in [] some = absurd (some refl)
 first_in (k ∷ ks) some = inl refl
 
--- the controller that fulfils a wish where it is offered, and otherwise takes the first offer
+-- the controller that fulfils a wish if it is offered, and otherwise takes the first offer
 abbrev pub wishing : Sys → Pair → Controller → Controller
 wishing s p W h a = if has (offers s (now_at p h) a) (W h a) then W h a else first (offers s (now_at p h) a)
 
@@ -108,7 +108,7 @@ follows_history s p all h (m ∷ ms) ok rest i follows =
     moved : (j : ℕ) → slice_index (map (λ m. m.seat) all) (suc (length h) + j) ≡ slice_index (map (λ m. m.seat) ms) j
     moved j = let same : suc (length h) + j ≡ length h + suc j = omega arith in ap (slice_index (map (λ m. m.seat) all)) same ∙ rest (suc j)
 
--- The target's state is determined by what a controller sees without it.
+-- The target's state follows from the visible part of the history.
 
 -- the pair after q that is determined by the visible part of a choice
 abbrev next_seen : Sys → Pair → Seen → Choice
@@ -128,7 +128,7 @@ shown_back : (s : Sys) (P : Controller) (p : Pair) → IsSys s → (h : List Cho
 shown_back s P p ok [] i = refl
 shown_back s P p ok (m ∷ h) i = grind (arith, next_seen, next_is, (shown_back s P p ok h i.0))
 
--- the choices of the controller, by what is visible without the target's state
+-- the choices of the controller, computed from the visible part of the history
 abbrev pub blinded : Sys → Pair → Controller → List Seen → ℕ → ℕ
 blinded s p P xs a = P (shown s p xs) a
 

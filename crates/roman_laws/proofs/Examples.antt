@@ -93,8 +93,8 @@ two = record { env = room; targets = lamp ∷ lamp ∷ []; seats = seat_of lamp 
 two_is : IsSeveral two
 two_is = grind (arith, room)
 
--- Exactly the pairs with as many lit lamps as the targets need are related. Where the second lamp is on for the second target, the first
--- lamp is offered to the first target.
+-- Exactly the pairs with as many lit lamps as the targets need are related. If the second lamp is on for the second target, the first lamp
+-- is offered to the first target.
 two_follow :
     (all_requests two ≡ record { target = 0; action = 0 } ∷ record { target = 0; action = 1 } ∷ record { target = 1; action = 0 } ∷ record { target = 1; action = 1 } ∷ [])
     × (length (pairs (combined two)) ≡ 16)

@@ -12,7 +12,7 @@ fails_more s P p m n l f = record {
 
 -- Every controller fails.
 
--- a controller that comes to a pair that is lost within n requests fails within n more
+-- a controller that reaches a pair that is lost within n requests fails within n more
 fails_from : (s : Sys) (P : Controller) (p : Pair) → IsSys s → (n : ℕ) (h : List Choice) → IsHistory s P p h → IsTrue (loses (arena s) n (now_at p h)) → FailsWithin s P p (length h + n)
 fails_from s P p ok zero h i t = record { history = h; possible = i; fails = inl (omega arith, unfine (not-true (is_fine s (now_at p h)) t)) }
   where
@@ -61,7 +61,7 @@ number_of (Some n) = n
 abbrev pick : Sys → (Pair → Bool) → Pair → ℕ → ℕ
 pick s gone q a = number_of (find (λ k. not (is_beaten (arena s) gone q a k)) (below (length s.seats)))
 
--- the controller that picks by what is lost within the requests that are left of n
+-- the controller that picks a seat whose outcomes aren't lost within the remaining ones of n requests
 abbrev lasting : Sys → Pair → ℕ → Controller
 lasting s p n h a = pick s (loses (arena s) (n - suc (length h))) (now_at p h) a
 
@@ -87,14 +87,14 @@ pick_unbeaten s q d a ok holds allows =
     let (i, t) = find_some (λ k. not (is_beaten (arena s) (loses (arena s) d) q a k)) (below (length s.seats)) j e in
     subst (λ o. IsFalse (is_beaten (arena s) (loses (arena s) d) q a (number_of o))) (sym e) (not-true (is_beaten (arena s) (loses (arena s) d) q a j) t)
 
--- where d requests are left, the choice of the controller isn't beaten
+-- when d requests are left, the choice of the controller isn't beaten
 lasting_unbeaten : (s : Sys) (p : Pair) (n d : ℕ) (h : List Choice) (a : ℕ) → IsSys s → length h + suc d ≡ n → HoldsOut s (suc d) (couple (now_at p h)) → Allows s (now_at p h).t (now_at p h).e a →
     IsFalse (is_beaten (arena s) (loses (arena s) d) (now_at p h) a (lasting s p n h a))
 lasting_unbeaten s p n d h a ok e holds allows =
     let left : d ≡ n - suc (length h) = omega arith in
     subst (λ m. IsFalse (is_beaten (arena s) (loses (arena s) d) (now_at p h) a (pick s (loses (arena s) m) (now_at p h) a))) left (pick_unbeaten s (now_at p h) d a ok holds allows)
 
--- its history holds out against the requests that are left
+-- a history of this controller holds out against the requests that are left
 lasting_holds : (s : Sys) (p : Pair) (n : ℕ) → IsSys s → IsPair s p → HoldsOut s n (couple p) → (h : List Choice) → IsHistory s (lasting s p n) p h → (d : ℕ) → length h + d ≡ n → HoldsOut s d (couple (now_at p h))
 lasting_holds s p n ok pair holds [] i d e = let same : n ≡ d = omega arith in subst (λ m. HoldsOut s m (couple p)) same holds
 lasting_holds s p n ok pair holds (m ∷ h) (i, chosen, leads) d e =
@@ -140,7 +140,7 @@ fails_stuck s P p n f = (
   ],
 )
 
--- no way of delegating holds out against n requests exactly where every controller fails within n
+-- no way of delegating holds out against n requests exactly when every controller fails within n
 fails_exactly : (s : Sys) (p : Pair) (n : ℕ) → IsSys s → IsPair s p → (HoldsOut s n (couple p) → ⊥) ↔ AllFailWithin s p n
 fails_exactly s p n ok pair = (
   λ lost. by_test (loses (arena s) n p) (all_fail s p ok n) (λ f. absurd (lost (unlost_holds s ok n p pair f))),

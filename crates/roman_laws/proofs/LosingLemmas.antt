@@ -32,7 +32,7 @@ step_thawed : (s : Sys) (xs ys : List Seat) → AreFrozenMore xs ys → (bs : Li
     SStep (with_seats s ys) bs e a k bs' e' → SStep (with_seats s xs) bs e a k bs' e'
 step_thawed s xs ys more bs e a k bs' e' r = grind (arith, get_frozen_more)
 
--- the converse, where that seat is ready
+-- the converse, if that seat is ready
 step_frozen : (s : Sys) (xs ys : List Seat) → AreFrozenMore xs ys → (bs : List ℕ) (e a k : ℕ) (bs' : List ℕ) (e' : ℕ) (y : Seat) → slice_get ys k ≡ Some y → IsFalse y.frozen →
     SStep (with_seats s xs) bs e a k bs' e' → SStep (with_seats s ys) bs e a k bs' e'
 step_frozen s xs ys more bs e a k bs' e' y seated ready r = grind (arith, get_frozen_more, same_Some)
@@ -49,7 +49,7 @@ meets_thawed s xs ys more Related c meets = record {
       );
 }
 
--- an ND-simulation stays one where seats are thawed
+-- an ND-simulation stays one when seats are thawed
 pub great_thawed : (s : Sys) (xs ys : List Seat) → AreFrozenMore xs ys → (p : Pair) → Great (with_seats s ys) p → Great (with_seats s xs) p
 great_thawed s xs ys more p (R, sim, i) = (R, λ c j. meets_thawed s xs ys more (λ d. IsIn d R) c (sim c j), i)
 
@@ -140,13 +140,13 @@ index_left at j [] f = refl
 index_left at zero (b ∷ bs) f = grind arith
 index_left at (suc j) (b ∷ bs) f = grind (arith, (index_left (λ i. at (suc i)) j bs f))
 
--- the same places in another order
+-- the order of the places doesn't matter
 same_without : (s : Sys) (p : Pair) (K J : List ℕ) → ((i : ℕ) → has K i ≡ has J i) → GreatWithout way.Die s p K → GreatWithout way.Die s p J
 same_without s p K J same great =
     subst (λ bs. Great (system_without way.Die J s) (record { t = p.t; e = p.e; bs = bs })) (leave_out_same (has K) (has J) p.bs same)
     (subst (λ seats. Great (record { env = s.env; target = s.target; seats = seats }) (pair_without way.Die K p)) (leave_out_same (has K) (has J) s.seats same) great)
 
--- a pair stays related where one seat that may go comes back
+-- a pair stays related when one seat that may go returns
 one_back : (s : Sys) (p : Pair) (K : List ℕ) (j : ℕ) → IsSys s → IsPair s p → IsFalse (has K j) → MayGoAt s p j → GreatWithout way.Die s p (j ∷ K) → GreatWithout way.Die s p K
 one_back s p K j ok pair f (seat, seated, goes) great =
     great_with_gone (system_without way.Die K s) (place_left (has K) j) seat (pair_without way.Die K p) (IsSys-reduced way.Die K s ok) (IsPair-reduced way.Die K s p pair)
@@ -189,7 +189,7 @@ may_part : (how : Way) (s : Sys) (p : Pair) (K J : List ℕ) → ArePart K J →
 may_part way.Freeze s p K J part may = tt
 may_part way.Die s p K J part may = λ k i. may k (part k i)
 
--- a pair that is related where more seats fail is related where fewer fail
+-- a pair that is related when more seats fail is related when fewer fail
 pub great_more : (how : Way) (s : Sys) (p : Pair) (K J : List ℕ) → IsSys s → IsPair s p → MayAllGo how s p J → ArePart K J → GreatWithout how s p J → GreatWithout how s p K
 great_more way.Freeze s p K J ok pair may more great = frozen_more s p K J more great
 great_more way.Die s p K J ok pair may more great = more_gone s p K J ok pair more (λ k i other. may k i) great
@@ -225,7 +225,7 @@ least_of how s p J (k ∷ rest) ok pair may fails needed =
     reduced : IsReduced how K s p
     reduced = reduced_are how K s p ok pair
 
-    -- a failing part contains k, where J without k doesn't fail
+    -- a failing part contains k, if J without k doesn't fail
     with_k : GreatWithout how s p K → (N : List ℕ) → ArePart N J → (GreatWithout how s p N → ⊥) → IsIn k N
     with_k works N part bad = by_test (has N k) (number_listed N k)
         (λ f. absurd (bad (great_more how s p N K ok pair (may_part how s p K J within may) (λ j i. grind (arith, both_ways, listed_number, in_filter, eqb-true, by_test, not_from_false)) works)))

@@ -14,7 +14,7 @@ listed_step beh b e a b' h = grind (arith, and_from, any_from, eq-eqb, listed_nu
 
 -- Finality, seat by seat
 
--- where all seats are final, the seat at each place is loose or final
+-- if all seats are final, the seat at each place is loose or final
 pub final_at : (seats : List Seat) (bs : List ℕ) → IsTrue (all_final seats bs) → (k : ℕ) (seat : Seat) → slice_get seats k ≡ Some seat →
     IsTrue (not seat.rests || is_final seat.beh (slice_index bs k))
 final_at [] bs all k seat e = absurd (none-some seat e)

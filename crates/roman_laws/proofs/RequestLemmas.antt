@@ -29,7 +29,7 @@ request_allowed w p n i target a asks allows = grind (arith, (from_combined_allo
 allowed_request : (w : Several) (p : Pair) (n i : ℕ) (target : Beh) (a : ℕ) → IsSeveral w → IsPair (combined w) p → IsRequestOf w n i target a → TargetAllows w p i target a → Allows (combined w) p.t p.e n
 allowed_request w p n i target a ok pair asks allows = combined_allows w p.t p.e n (record { target = i; action = a }) target ok pair.t asks.request asks.member allows
 
--- The seats that serve them.
+-- The seats that serve the combined actions.
 
 serves_combined : (w : Several) (p : Pair) (n i : ℕ) (target : Beh) (a k : ℕ) → IsSeveral w → IsRequestOf w n i target a →
     ServesAll w (GreatAll w) (couple_all w p) i target a k → Serves (combined w) (GreatCouple (combined w)) (couple p) n k

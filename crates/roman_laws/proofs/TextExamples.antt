@@ -15,7 +15,7 @@ written = refl
 abbrev Says : List ℕ → Verdict → Type 0
 Says lines verdict = cert_verdict (numbered flaky_system) 0 (codes "roman-order 1\npairs 6\n" ++ lines) ≡ verdict
 
--- the list, two of its entries exchanged, without an entry, without its end, with an entry twice, without the last newline, and with a line after its end
+-- the verdicts on the list, on it with two of its entries exchanged, without an entry, without its end, with an entry twice, without the last newline, and with a line after its end
 orders_are_judged :
     Says (codes "1 f\n2 0\n3 1\n5 1\n0 0\n4 1\nend\n") (Greatest 0 false)
     × Says (codes "1 f\n2 0\n3 1\n0 0\n5 1\n4 1\nend\n") (Rejected 6 Unjustified)
@@ -27,7 +27,7 @@ orders_are_judged :
 unfolding digits
 orders_are_judged = (refl, refl, refl, refl, refl, refl, refl)
 
--- a leading zero, a number out of range, an action that isn't allowed
+-- the verdicts on a leading zero, a number out of range, and an action that isn't allowed
 entries_are_judged : Says (codes "01 f\n") (Rejected 3 Form) × Says (codes "6 f\n") (Rejected 3 Form) × Says (codes "1 f\n2 1\n") (Rejected 4 Unjustified)
 unfolding digits
 entries_are_judged = (refl, refl, refl)
@@ -53,7 +53,7 @@ names = record {
   seats = record { service = codes "f1"; states = codes "off" ∷ codes "on" ∷ codes "stuck" ∷ [] } ∷ [];
 }
 
--- a pair that is lost by an answer, and one that is lost by clause 2
+-- the explanations of a pair that is lost by an answer, and of one that is lost by clause 2
 explained :
     (explain_text flaky_system names pair_order (pair_of 0 (0 ∷ [])) ≡ codes "lost on e stuck: off\n  f1 cannot\nlost off e off: on\n  f1 may answer stuck e\nend\n")
     × (explain_text flaky_system names pair_order (pair_of 0 (1 ∷ [])) ≡ codes "lost off e on: final\nend\n")

@@ -17,12 +17,12 @@ abbrev pub now_at : Pair → List Choice → Pair
 now_at p [] = p
 now_at p (m ∷ h) = m.to
 
--- the history is possible from p on, where the controller chose each seat
+-- the history is possible from p on, and the controller chose each seat
 abbrev pub IsHistory : Sys → Controller → Pair → List Choice → Type 0
 IsHistory s P p [] = Unit {0}
 IsHistory s P p (m ∷ h) = IsHistory s P p h × (m.seat ≡ P h m.action) × LeadsTo s (now_at p h) m.action m.seat m.to
 
--- where the target is final at q the system is too, and for each target step the chosen seat has a system step into the same environment
+-- if the target is final at q, so is the system, and for each target step the chosen seat has a system step into the same environment
 -- state
 pub record CanGoOn (s : Sys) (choose : ℕ → ℕ) (q : Pair) : Type 0 where
   pub final : IsTrue (is_final s.target q.t) → IsTrue (all_final s.seats q.bs)
@@ -41,7 +41,7 @@ abbrev pub TakesServers : Sys → Controller → Pair → Type 0
 TakesServers s P p =
     (h : List Choice) → IsHistory s P p h → (a : ℕ) → Allows s (now_at p h).t (now_at p h).e a → Serves s (GreatCouple s) (couple (now_at p h)) a (P h a)
 
--- what a controller sees without the target's state: the requested action, the seat that served it, and the next states of the system
+-- the facts that a controller sees without the target's state: the requested action, the seat that served it, and the next states of the system
 pub record Seen : Type 0 where
   pub action : ℕ
   pub seat : ℕ
@@ -61,10 +61,10 @@ abbrev pub since : List Choice → List Choice → List Choice
 since h [] = h
 since h (m ∷ ms) = since (m ∷ h) ms
 
--- the controllers that realise the target from a pair: there is one exactly where the pair is related;
--- they are exactly those that take offers, and stay at related pairs; for any controller, one of them
--- chooses the same seat wherever that seat is offered; each run that takes offers is a history of one of
--- them; and the visible part of the history is enough for each
+-- The controllers that realise the target from a pair. There is one exactly when the pair is related. They
+-- are exactly those that take offers, and they stay at related pairs. For any controller, one of them
+-- chooses the same seat wherever that seat is offered. Each run that takes offers is a history of one of
+-- them. The visible part of the history is enough for each.
 pub record RealisersTakeOffers (s : Sys) (p : Pair) : Type 0 where
   pub some : Great s p ↔ ((P : Controller) × Realises s P p)
   pub takers : (P : Controller) → Realises s P p ↔ (Great s p × TakesOffers s P p)

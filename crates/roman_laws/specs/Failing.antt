@@ -1,5 +1,5 @@
 -- Controllers at pairs that aren't related: each can fail within a number of requests that is known beforehand. The history in which it fails
--- is finite, so no assumption on how often outcomes come excludes it.
+-- is finite, so no assumption on how often outcomes occur excludes it.
 use Rattle.std.specs.Prelude.{◌↔◌, ◌⊎◌, ℕ, ◌<◌, ◌≤◌, List, length, IsTrue, IsFalse}
 use Rattle.roman_model.specs.System.{Sys, Pair, IsSys, IsPair, SStep, Allows, is_final, all_final}
 use Rattle.roman_model.specs.SystemArena.{pairs}
@@ -12,7 +12,7 @@ use Rattle.roman_laws.specs.Controllers.{Controller, now_at, IsHistory, CanGoOn}
 abbrev pub FailsToRest : Sys → Pair → Type 0
 FailsToRest s q = IsTrue (is_final s.target q.t) × IsFalse (all_final s.seats q.bs)
 
--- the target allows the action, and the seat has no step by it, wherever the environment goes
+-- the target allows the action, and the seat has no step by it, whatever the environment's next state is
 abbrev pub FailsToServe : Sys → Pair → ℕ → ℕ → Type 0
 FailsToServe s q a k = Allows s q.t q.e a × ((bs' : List ℕ) (e' : ℕ) → SStep s q.bs q.e a k bs' e' → ⊥)
 
@@ -35,6 +35,6 @@ pub record ControllersFail (s : Sys) (p : Pair) : Type 0 where
   pub exact : (n : ℕ) → (HoldsOut s n (couple p) → ⊥) ↔ AllFailWithin s p n
   pub least : (n : ℕ) → IsLeast s p n ↔ (AllFailWithin s p n × ((m : ℕ) → m < n → (P : Controller) × (FailsWithin s P p m → ⊥)))
 
--- at every pair of every system
+-- the laws on controllers that fail, at every pair of every system
 abbrev pub EveryControllerFails : Type 0
 EveryControllerFails = (s : Sys) (p : Pair) → IsSys s → IsPair s p → ControllersFail s p

@@ -1,4 +1,4 @@
--- The greatest ND-simulation against removal lists, depths and replays.
+-- The relation of the greatest ND-simulation to removal lists, depths and replays.
 use Rattle.std.specs.Prelude.{ℕ, ◌≤◌, List, [], length, IsTrue, ◌↔◌}
 use Rattle.roman_model.specs.Lists.{IsIn, IsSublist}
 use Rattle.roman_model.specs.System.{Sys, Pair, IsSys, IsPair}
@@ -20,7 +20,7 @@ GreatestIsGreatest = (s : Sys) → IsSys s → GreatestIsSimulation s
 abbrev pub OrderRefutes : Type 0
 OrderRefutes = (s : Sys) (L : List (Entry Pair)) → IsSys s → IsOrder (arena s) L → (x : Entry Pair) → IsIn x L → IsPair s x.node → Great s x.node → ⊥
 
--- depth is bounded: a pair is unrelated exactly where it is lost within as many requests as there are pairs
+-- depth is bounded: a pair is unrelated exactly when it is lost within as many requests as there are pairs
 abbrev pub UnrelatedLoses : Type 0
 UnrelatedLoses = (s : Sys) → IsSys s → (p : Pair) → IsPair s p →
     (Great s p → ⊥) ↔ ((n : ℕ) × (n ≤ length (pairs s)) × IsTrue (loses (arena s) n p))

@@ -10,7 +10,7 @@ use Rattle.roman_model.specs.Without.{system_without, pair_without}
 use Rattle.roman_model.specs.declared.way.Way.{Way}
 use Rattle.roman_model.specs.declared.way.Way.TheVariants as way
 
--- the reduced pair is related where the seats at the places K fail
+-- the reduced pair is related if the seats at the places K fail
 abbrev pub GreatWithout : Way → Sys → Pair → List ℕ → Type 0
 GreatWithout how s p K = Great (system_without how K s) (pair_without how K p)
 
@@ -22,10 +22,9 @@ ArePart K J = (k : ℕ) → IsIn k K → IsIn k J
 abbrev pub MayGoAt : Sys → Pair → ℕ → Type 0
 MayGoAt s p k = (seat : Seat) × (slice_get s.seats k ≡ Some seat) × IsTrue (may_go k seat p)
 
--- a pair that is related with more seats frozen is related with fewer or none, and the same holds for
--- deaths of seats that may go. (A seat that rests outside a final state keeps the pair unrelated, also
--- where it is frozen, and its death may help.) Where the target is final, each seat of a related pair
--- may go.
+-- A pair that is related with more seats frozen is related with fewer or none, and the same holds for
+-- deaths of seats that may go. (A seat that rests outside a final state keeps the pair unrelated, even
+-- if it is frozen, and its death may help.) If the target is final, each seat of a related pair may go.
 pub record LossNeverHelps (s : Sys) (p : Pair) : Type 0 where
   pub one_frozen : (k : ℕ) → Great (after (change.Freeze k) s) p → Great s p
   pub more_frozen : (K J : List ℕ) → ArePart K J → GreatWithout way.Freeze s p J → GreatWithout way.Freeze s p K
@@ -44,12 +43,12 @@ abbrev pub MayAllGo : Way → Sys → Pair → List ℕ → Type 0
 MayAllGo way.Freeze s p K = Unit {0}
 MayAllGo way.Die s p K = (k : ℕ) → IsIn k K → MayGoAt s p k
 
--- the reduced pair is unrelated where these seats fail, and related where only some of them fail
+-- the reduced pair is unrelated if these seats fail, and related if only some of them fail
 pub record IsLeastFailing (how : Way) (s : Sys) (p : Pair) (M : List ℕ) : Type 0 where
   pub fails : GreatWithout how s p M → ⊥
   pub least : (N : List ℕ) → ArePart N M → (GreatWithout how s p N → ⊥) → ArePart M N
 
--- the reduced pair is unrelated exactly where the seats that fail contain a least failing set
+-- the reduced pair is unrelated exactly when the seats that fail contain a least failing set
 abbrev pub LeastFailingSuffice : Type 0
 LeastFailingSuffice =
     (how : Way) (s : Sys) (p : Pair) (K : List ℕ) → IsSys s → IsPair s p → MayAllGo how s p K →

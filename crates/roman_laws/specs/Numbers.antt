@@ -1,4 +1,4 @@
--- The numbers of a system's pairs, and of the pairs of any sizes, within the limits of documents or not.
+-- The numbers of a system's pairs, and of the pairs of any sizes, even beyond the limits of documents.
 use Rattle.std.specs.Prelude.{◌≡◌, ℕ, ◌<◌, List}
 use Rattle.roman_model.specs.Lists.{product_of}
 use Rattle.roman_model.specs.System.{Sys, Pair, IsSys}

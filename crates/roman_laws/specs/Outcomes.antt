@@ -25,7 +25,7 @@ pub record OutcomesAre (s : Sys) (p : Pair) : Type 0 where
   pub fine : IsTrue (is_fine s p) ↔ (IsTrue (is_final s.target p.t) → IsTrue (all_final s.seats p.bs))
   pub rests : IsPair s p → IsTrue (all_final s.seats p.bs) ↔ AllRest s p
 
--- an action is allowed exactly where a target step by it exists; a pair is an outcome exactly where a target step and a system step lead to it
+-- an action is allowed exactly when a target step by it exists; a pair is an outcome exactly when a target step and a system step lead to it
 abbrev pub OutcomesAreSteps : Type 0
 OutcomesAreSteps = (s : Sys) (p : Pair) → IsSys s → OutcomesAre s p
 

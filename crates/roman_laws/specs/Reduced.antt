@@ -11,6 +11,6 @@ pub record IsReduced (how : Way) (K : List ℕ) (s : Sys) (p : Pair) : Type 0 wh
   pub pair : IsPair (system_without how K s) (pair_without how K p)
   pub composes : IsTrue (outlook (system_without how K s) (pair_without how K p)).composes ↔ Great (system_without how K s) (pair_without how K p)
 
--- this holds for all seats that fail and both ways of failing
+-- for all seats that fail and both ways of failing, the reduced system and the reduced pair are well formed
 abbrev pub ReducedAreSystems : Type 0
 ReducedAreSystems = (how : Way) (K : List ℕ) (s : Sys) (p : Pair) → IsSys s → IsPair s p → IsReduced how K s p

@@ -29,7 +29,7 @@ pub record KeepsTheMost (change : Change) (s : Sys) (old new : List (Entry ℕ))
   pub holds : (M : List (Entry Pair)) → CanBeKept change s (map (entry_at s) old) M → IsSublist M (take kept (map (entry_at (after change s)) new))
   pub longest : (M : List (Entry Pair)) → CanBeKept change s (map (entry_at s) old) M → length M ≤ kept
 
--- this holds for every change, where the new list begins with exactly the replay of the renamed old one
+-- a new list over numbers keeps the most for every change, if it begins with exactly the replay of the renamed old one
 abbrev pub ReplaysKeepTheMost : Type 0
 ReplaysKeepTheMost =
     (change : Change) (s : Sys) (old new : List (Entry ℕ)) (kept : ℕ) → IsSys s → CanChange change s → AreEntries s (map (entry_at s) old) → IsOrder (arena s) (map (entry_at s) old) →

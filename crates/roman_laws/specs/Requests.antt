@@ -17,9 +17,9 @@ pub record IsRequestOf (w : Several) (n i : ℕ) (target : Beh) (a : ℕ) : Type
   pub request : slice_get (all_requests w) n ≡ Some (record { target = i; action = a })
   pub member : slice_get w.targets i ≡ Some target
 
--- each allowed combined action is a request, and each request that its target allows is a combined action; the action is allowed exactly
--- where its target allows it, and the offered seats are exactly those that serve it with respect to the couples that are related for all
--- targets
+-- Each allowed combined action is a request, and each request that its target allows is a combined action. The action is allowed exactly
+-- when its target allows it. The offered seats are exactly those that serve it with respect to the couples that are related for all
+-- targets.
 pub record RequestsAreOf (w : Several) (p : Pair) : Type 0 where
   pub named : (n : ℕ) → IsTrue (is_allowed (combined w) p n) → (i : ℕ) × (target : Beh) × (a : ℕ) × IsRequestOf w n i target a
   pub numbered : (i : ℕ) (target : Beh) (a : ℕ) → slice_get w.targets i ≡ Some target → TargetAllows w p i target a → (n : ℕ) × IsRequestOf w n i target a
@@ -27,7 +27,7 @@ pub record RequestsAreOf (w : Several) (p : Pair) : Type 0 where
   pub offered : (n i : ℕ) (target : Beh) (a : ℕ) → IsRequestOf w n i target a → TargetAllows w p i target a → (k : ℕ) →
       IsIn k (offers (combined w) p n) ↔ ((k < length w.seats) × ServesAll w (GreatAll w) (couple_all w p) i target a k)
 
--- this holds at every pair of the system that combines several targets
+-- at every pair of the system that combines several targets, the combined actions are the requests of the targets
 abbrev pub RequestsOfTargets : Type 0
 RequestsOfTargets = (w : Several) → IsSeveral w → (p : Pair) → IsPair (combined w) p → RequestsAreOf w p
 
@@ -37,8 +37,8 @@ pub record IsMoveOf (w : Several) (p : Pair) (i : ℕ) (target : Beh) (a t' e' :
   pub step : TStep (of_one w target) (slice_index (couple_all w p).ts i) p.e a to e'
   pub states : (couple_all w (record p { t = t' })).ts ≡ slice_set (couple_all w p).ts i to
 
--- a turn of the combined system, target by target: the allowed actions are the requests that the targets allow, a seat that serves one
--- serves all targets, each step of a seat is one on the plain action, and only the requesting target moves
+-- A turn of the combined system, target by target. The allowed actions are the requests that the targets allow. A seat that serves one
+-- serves all targets, each step of a seat is one on the plain action, and only the requesting target moves.
 pub record TurnsAreOf (w : Several) (p : Pair) : Type 0 where
   pub named : (n : ℕ) → Allows (combined w) p.t p.e n → (i : ℕ) × (target : Beh) × (a : ℕ) × IsRequestOf w n i target a
   pub asked : (n i : ℕ) (target : Beh) (a : ℕ) → IsRequestOf w n i target a → Allows (combined w) p.t p.e n ↔ TargetAllows w p i target a
@@ -48,6 +48,6 @@ pub record TurnsAreOf (w : Several) (p : Pair) : Type 0 where
       SStep (combined w) p.bs p.e n k bs' e' ↔ SStep (of_one w target) p.bs p.e a k bs' e'
   pub moved : (n i : ℕ) (target : Beh) (a : ℕ) → IsRequestOf w n i target a → (t' e' : ℕ) → TStep (combined w) p.t p.e n t' e' → IsMoveOf w p i target a t' e'
 
--- this holds at every pair of the system that combines several targets
+-- at every pair of the system that combines several targets, its turns are turns of the targets
 abbrev pub TurnsOfTargets : Type 0
 TurnsOfTargets = (w : Several) → IsSeveral w → (p : Pair) → IsPair (combined w) p → TurnsAreOf w p

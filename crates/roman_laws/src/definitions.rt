@@ -24,8 +24,8 @@ pub fn order_refutes()
     ensures refuted { OrderRefutes }
 {}
 
-/// A pair is unrelated exactly where the opponent wins from it within as many requests as there
-/// are pairs.
+/// A pair is unrelated exactly when the opponent wins from it within as many requests as there are
+/// pairs.
 #[tactic(auto, using(crate::proofs::GreatestLemmas::unrelated_lost))]
 pub fn unrelated_loses()
     ensures lost { UnrelatedLoses }
@@ -46,9 +46,9 @@ pub fn following_stays()
 {}
 
 /// The allowed actions, the outcomes and clause 2 agree with the steps of the system. An action is
-/// allowed exactly where a target step by it exists. A pair is an outcome exactly where a target step
-/// and a system step lead to it. Clause 2 requires a final state of each seat that rests, where the
-/// target is in one. The tests of triples, steps and final states are membership in their lists.
+/// allowed exactly when a target step by it exists. A pair is an outcome exactly when a target step
+/// and a system step lead to it. If the target is in a final state, clause 2 requires that each seat
+/// that rests is in one. The tests of triples, steps and final states are membership in their lists.
 pub fn outcomes_are_steps()
     ensures outcomes { OutcomesAreSteps }
     ensures listed { TestsAreMembership }
@@ -60,14 +60,14 @@ pub fn pairs_are_numbered()
     ensures numbered { PairsAreNumbered }
 {}
 
-/// Pairs and lists of states correspond to their numbers one to one, for all sizes, within the limits
-/// of documents or not.
+/// Pairs and lists of states correspond to their numbers one to one, for all sizes, even beyond the
+/// limits of documents.
 #[tactic(auto, using(crate::proofs::OutcomeLemmas::shapes_numbered))]
 pub fn shapes_are_numbered()
     ensures numbered { ShapesAreNumbered }
 {}
 
-/// The system that combines several targets is well formed. A pair of it is related exactly where
+/// The system that combines several targets is well formed. A pair of it is related exactly when
 /// some ND-simulation of all targets holds it, each target requesting on its own.
 #[tactic(auto, using(roman_model::proofs::CallerLemmas::combined_is_all))]
 pub fn combined_is_all()

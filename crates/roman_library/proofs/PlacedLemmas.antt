@@ -40,7 +40,7 @@ stops_left step items i before x error.Fault all h e stops left = tt
 stops_left step items i before x (error.Refused refusal) all h e stops left = ends step items i before x refusal all h e stops left
 stops_left step items i before x error.Memory all h e stops left = tt
 
--- what holds where the shelf exposes its texts
+-- a fact about the texts of a shelf that exposes them
 pub where_told : (told : Option Texts) (P : Texts → Type 0) → ((texts : Texts) → told ≡ Some texts → P texts) → IfSome told P
 where_told None P holds = tt
 where_told (Some texts) P holds = holds texts refl

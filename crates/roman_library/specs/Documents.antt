@@ -201,11 +201,11 @@ state_of behaviour d = optional (place_in behaviour.states list.State 0) behavio
 abbrev pub truth_in : Place → Data → Result Bool PartError
 truth_in place d = looked place 0 (truth_of d)
 
--- whether a service is frozen, by default not
+-- whether a service is frozen; the default is no
 unfoldable pub frozen_of : Data → Result Bool PartError
 frozen_of d = optional (truth_in list.Frozen) false (member_of d (codes "frozen"))
 
--- whether a service rests, by default yes, and always in version 1
+-- whether a service rests; the default is yes, and in version 1 each service rests
 unfoldable pub rests_of : ℕ → Data → Result Bool PartError
 rests_of version d = if version == 1 then Ok true else optional (truth_in list.Rests) true (member_of d (codes "rests"))
 

@@ -21,13 +21,13 @@ abbrev pub placed : {X : Type 0} → List ℕ → Part → Result X PartError �
 placed document part (Ok x) = Ok x
 placed document part (Err e) = Err (refusal_of document part e)
 
--- the refusal is the one that the definition gives; a fault and running out of memory state nothing
+-- the refusal is the one that the definition gives; nothing is stated for a fault, or if memory runs out
 abbrev pub Stops : {Y : Type 0} → LoadError → Result Y Refusal → Type 0
 Stops error.Fault reading = Unit {0}
 Stops (error.Refused refusal) reading = reading ≡ Err refusal
 Stops error.Memory reading = Unit {0}
 
--- the code returns what the definition gives, seen through a view, and refuses what it refuses
+-- the code returns the value that the definition gives, seen through a view, or the same refusal
 abbrev pub Loads : {X Y : Type 0} → (X → Y) → Result X LoadError → Result Y Refusal → Type 0
 Loads view (Ok x) reading = reading ≡ Ok (view x)
 Loads view (Err e) reading = Stops e reading
@@ -43,7 +43,7 @@ abbrev pub CausesLoad : {T : Type 0} → ℕ → ℕ → Result T LoadError → 
 CausesLoad old new (Ok x) = new ≡ old
 CausesLoad old new (Err e) = IsCause old new e
 
--- if the shelf's texts are known, the code returns or refuses what the definition gives on them
+-- if the shelf exposes its texts, the code returns the value or the refusal that the definition gives on them
 abbrev pub LoadsFrom : {X Y : Type 0} → Option Texts → (X → Y) → Result X LoadError → (Texts → Result Y Refusal) → Type 0
 LoadsFrom told view result reading = (texts : Texts) → told ≡ Some texts → Loads view result (reading texts)
 
@@ -77,7 +77,7 @@ IsQuiet (Err error.Fault) = ⊥
 IsQuiet (Err (error.Refused refusal)) = Unit {0}
 IsQuiet (Err error.Memory) = Unit {0}
 
--- the code returns or refuses what the definition gives, without a fault
+-- the code returns the value or the refusal that the definition gives, without a fault
 pub record LoadsQuietly {X Y : Type 0} (view : X → Y) (result : Result X LoadError) (reading : Result Y Refusal) : Type 0 where
   pub loads : Loads view result reading
   pub quiet : IsQuiet result

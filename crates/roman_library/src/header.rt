@@ -13,7 +13,6 @@ use serde_json::Value;
 const NEWEST: u64 = 3;
 
 #[tactic(auto, unfolding(crate::specs::Documents::version_of))]
-/// Reads the version.
 pub(crate) fn read_version(v: &Value) -> Result<u64, PartError>
     ensures { Gives (λ x. x) result (version_of (view v.now)) }
 {

@@ -17,14 +17,12 @@ pub fn place_of_behaviour(catalogue: &[Behaviour], name: &[u8]) -> Option<usize>
     catalogue.iter().position(|b| name == b.name().bytes())
 }
 
-/// Returns the place of the service with this name.
 pub(crate) fn place_of_service(services: &[Service], name: &[u8]) -> Option<usize>
     ensures place { result ≡ place_of (map service_name services.now) name.now }
 {
     services.iter().position(|s| name == s.name.bytes())
 }
 
-/// Returns the place of the target with this name.
 pub(crate) fn place_of_target(targets: &[Named], name: &[u8]) -> Option<usize>
     ensures place { result ≡ place_of (map target_name targets.now) name.now }
 {

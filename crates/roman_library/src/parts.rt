@@ -15,7 +15,6 @@ use serde_json::Value;
 use std::alloc::Global;
 
 #[tactic(auto, unfolding(crate::specs::Documents::environment_in, crate::specs::Documents::part_of))]
-/// Loads the environment of a document.
 pub(crate) fn load_environment<F: Shelf>(
     alloc: Global,
     shelf: &mut F,
@@ -40,7 +39,6 @@ pub(crate) fn load_environment<F: Shelf>(
 }
 
 #[tactic(auto, using(roman_parts::proofs::CallerLemmas::target_known), unfolding(crate::specs::Documents::target_in, crate::specs::Documents::part_of))]
-/// Loads the target of a document.
 pub(crate) fn load_target<F: Shelf>(
     alloc: Global,
     shelf: &mut F,

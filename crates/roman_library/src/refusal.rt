@@ -19,13 +19,13 @@ pub enum Part {
     Behaviour(u32),
     /// The service with this number, from 0.
     Service(u32),
-    /// The target with this number, from 0. The number is 0 also when there is only one target.
+    /// The target with this number, from 0. The number is also 0 if there is only one target.
     Target(u32),
     /// The costs for advice, which have a text of their own.
     Costs,
 }
 
-/// The first rule that a document breaks, and the place where it does. A refusal line reports it.
+/// The first rule that a document breaks, and the place of the violation. A refusal line reports it.
 #[derive(Debug, Drop)]
 pub struct Refusal {
     /// The name of the document or the part file that breaks the rule.
@@ -36,9 +36,9 @@ pub struct Refusal {
     pub part: Part,
     /// The member or list of that part.
     pub list: List,
-    /// The number of the item in that list, from 0. It is 0 also for the list as a whole, and for a
-    /// member that isn't a list. For a broken rule on combined targets it is the number of the rule,
-    /// from 1 to 4.
+    /// The number of the item in that list, from 0. It is also 0 for the list as a whole, and for a
+    /// member that isn't a list. For a broken rule on combined targets it is the number of the
+    /// rule, from 1 to 4.
     pub index: u32,
 }
 

@@ -21,7 +21,6 @@ use serde_json::Value;
 use std::alloc::Global;
 
 #[tactic(auto, unfolding(crate::specs::Documents::services_of))]
-/// Reads the services of a document.
 pub(crate) fn read_services(
     alloc: Global,
     document: &str,
@@ -90,7 +89,7 @@ fn read_state(v: &Value, behaviour: &Behaviour) -> Result<u8, PartError>
 }
 
 #[tactic(auto, unfolding(crate::specs::Documents::frozen_of))]
-/// Reads whether a service is frozen, which by default it isn't.
+/// Reads whether a service is frozen. The default is no.
 fn read_frozen(v: &Value) -> Result<bool, PartError>
     ensures { Gives (λ x. x) result (frozen_of (view v.now)) }
 {
@@ -101,7 +100,7 @@ fn read_frozen(v: &Value) -> Result<bool, PartError>
 }
 
 #[tactic(auto, unfolding(crate::specs::Documents::rests_of))]
-/// Reads whether a service rests, which by default it does. In version 1 every service rests.
+/// Reads whether a service rests. The default is yes, and in version 1 every service rests.
 fn read_rests(v: &Value, version: u64) -> Result<bool, PartError>
     ensures { Gives (λ x. x) result (rests_of version (view v.now)) }
 {

@@ -64,7 +64,6 @@ pub(crate) fn load_parts<F: Shelf>(
 }
 
 #[tactic(auto, unfolding(crate::specs::Documents::targets_in))]
-/// Loads the targets of a document.
 fn load_targets<F: Shelf>(
     alloc: Global,
     shelf: &mut F,

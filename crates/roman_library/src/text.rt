@@ -9,7 +9,7 @@ use serde_json::Value;
 use std::alloc::{AllocError, Global};
 use thiserror::Error;
 
-/// Why a text on a shelf gave no JSON value.
+/// Why no JSON value was read from a text on a shelf.
 #[derive(Clone, Copy, Debug, PartialEq, Eq, Error)]
 pub enum DocError {
     /// The shelf failed.
@@ -54,8 +54,9 @@ impl From<AllocError> for DocError {
 /// bytes, to its end or just past the greatest size of a document.
 ///
 /// Fails with `Fault` only when the shelf failed and its count of faults rose. Fails with `TooLong`
-/// exactly when the text gave byte 1,048,577. Fails with `NotJson` exactly when the text was read to
-/// its end and `serde_json` reads no value from it. Fails with `Memory` only when out of memory.
+/// exactly when byte 1,048,577 of the text was fetched. Fails with `NotJson` exactly when the text
+/// was read to its end and `serde_json` reads no value from it. Fails with `Memory` only when out
+/// of memory.
 pub fn document<F: Shelf>(alloc: Global, shelf: &mut F, name: &str) -> Result<Value, DocError>
     ensures value { IsValueOf (F.texts shelf.old) name.now result }
     ensures texts { F.texts shelf.new ≡ F.texts shelf.old }

@@ -1,4 +1,4 @@
--- What the proof pages of this crate cite from elsewhere, passed on from one place. Declares nothing.
+-- Re-exports the names that the proof pages of this crate use from other crates. Declares nothing.
 pub use Rattle.std.proofs.Common.{Bool, Bor, IsTrue, List, None, [], add-one, ap, append-nil, append_assoc, ap₂, arith, codes, drop, drop-cons, get_or, inl, inr, length, length-append, lit<, lit≤, map, nat_lt, refl, subst, suc, sym, take, true, zero, ℕ, ◌&&◌, ◌++◌, ◌+◌, ◌<◌, ◌==◌, ◌∙◌, ◌∷◌, ◌≡◌, ◌≤◌}
 pub use Rattle.std.proofs.lemmas.Bool.{and_parts, eqb-true, ltb-true}
 pub use Rattle.std.proofs.lemmas.List.{drop_all, length-map, length-take-le, take-map}

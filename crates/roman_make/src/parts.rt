@@ -41,7 +41,7 @@ fn steps_of(alloc: Global, rows: &[Row]) -> Result<Vec<Step>, AllocError>
         .collect(alloc)
 }
 
-/// Returns the set of all environment states, of which there is one.
+/// Returns the set of the only environment state.
 fn every_state() -> StateSet
     ensures { result ≡ 1 }
 {

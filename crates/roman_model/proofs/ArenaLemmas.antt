@@ -7,8 +7,8 @@ pub record IsSame {N : Type 0} (A : Arena N) : Type 0 where
   pub is : (p q : N) → IsTrue (A.same p q) → p ≡ q
   pub itself : (p : N) → IsTrue (A.same p p)
 
--- what the arena of a system satisfies: each allowed action is below the number of actions; each outcome is a node, and belongs to an
--- allowed action and a ready seat; no node occurs twice
+-- the properties of the arena of a system: each allowed action is below the number of actions; each outcome is a node, and belongs to
+-- an allowed action and a ready seat; no node occurs twice
 pub record IsArena {N : Type 0} (A : Arena N) : Type 0 where
   pub same : IsSame A
   pub allowed : (p : N) (a : ℕ) → IsTrue (A.allows p a) → a < A.actions
@@ -60,7 +60,7 @@ unbeaten_is A gone p a k b = grind (arith, any_false, not_empty_ne, or_parts)
 
 -- Reasons.
 
--- a reason that holds still holds where more nodes are gone
+-- a reason that holds still holds when more nodes are gone
 pub justified_more : {N : Type 0} (A : Arena N) (gone more : N → Bool) (p : N) (r : Reason) →
     ((a k : ℕ) (q : N) → IsIn q (A.outcomes p a k) → IsTrue (gone q) → IsTrue (more q)) → IsTrue (is_justified A gone p r) → IsTrue (is_justified A more p r)
 justified_more A gone more p Final h j = j
@@ -102,18 +102,18 @@ pub mask_same : {N : Type 0} (A : Arena N) (gone more : N → Bool) (p : N) (a :
     ((k : ℕ) (q : N) → IsIn q (A.outcomes p a k) → gone q ≡ more q) → mask A gone p a ≡ mask A more p a
 mask_same A gone more p a h = grind (arith, any_same, filter_same)
 
--- the mask is empty where the action isn't allowed
+-- the mask is empty if the action isn't allowed
 pub mask_none : {N : Type 0} (A : Arena N) (gone : N → Bool) (p : N) (a : ℕ) → IsFalse (A.allows p a) → mask A gone p a ≡ []
 mask_none A gone p a f = cond-false (A.allows p a) (filter (λ k. not (is_beaten A gone p a k)) (below A.seats)) [] f
 
--- a seat is in the mask exactly where its test passes: a bit of the mask
+-- a seat is in the mask exactly when its test passes: a bit of the mask
 pub mask_has : {N : Type 0} (A : Arena N) (gone : N → Bool) (p : N) (a k : ℕ) → k < A.seats → has (mask A gone p a) k ≡ (A.allows p a && not (is_beaten A gone p a k))
 mask_has A gone p a k l = grind (arith, and_from, and_parts, any_from, any_true, eq-eqb, eqb-true, from_mask, in_mask, not-true, not_from_false, same_test)
 
 pub mask_has_past : {N : Type 0} (A : Arena N) (gone : N → Bool) (p : N) (a k : ℕ) → A.seats ≤ k → IsFalse (has (mask A gone p a) k)
 mask_has_past A gone p a k l = grind (arith, by_test, eqb-true, from_mask, none_from)
 
--- the mask is empty exactly where the action is a reason, or isn't allowed
+-- the mask is empty exactly when the action is a reason, or isn't allowed
 pub mask_empty : {N : Type 0} (A : Arena N) (gone : N → Bool) (p : N) (a : ℕ) → IsTrue (A.allows p a) → mask A gone p a ≡ [] → IsTrue (is_justified A gone p (Act a))
 mask_empty A gone p a allowed e = grind (arith, by_test, in_mask, all_below_false, and_cases, both_ways)
 
@@ -133,13 +133,13 @@ pub survives_more : {N : Type 0} (A : Arena N) (Lives More : N → Type 0) (p : 
     ((a k : ℕ) (q : N) → IsIn q (A.outcomes p a k) → Lives q → More q) → Survives A Lives p → Survives A More p
 survives_more A Lives More p h s = grind arith
 
--- no reason holds at a node that survives, where no living node is gone
+-- no reason holds at a node that survives, if no living node is gone
 pub unjustified : {N : Type 0} (A : Arena N) (Lives : N → Type 0) (gone : N → Bool) (p : N) (r : Reason) → Survives A Lives p →
     ((q : N) → IsTrue (gone q) → Lives q → ⊥) → IsTrue (is_justified A gone p r) → ⊥
 unjustified A Lives gone p Final s dead j = both_ways (A.fine p) (not-true (A.fine p) j) s.final
 unjustified A Lives gone p (Act a) s dead j = grind (arith, beaten_is, justified_is)
 
--- the same, where only nodes of the arena count
+-- the same, if only nodes of the arena count
 pub survivor_within : {N : Type 0} (A : Arena N) → IsArena A → (gone : N → Bool) (p : N) → IsIn p A.nodes → IsTrue (A.fine p) →
     ((a : ℕ) → IsTrue (A.allows p a) → IsFalse (is_justified A gone p (Act a))) → Survives A (λ q. IsIn q A.nodes × IsFalse (gone q)) p
 survivor_within A ok gone p i fine h =

@@ -24,7 +24,7 @@ pub use Rattle.roman_model.proofs.CompositionLemmas.{fine_from, fine_is, great_m
 pub use Rattle.roman_model.proofs.CompositionLemmas.{related_offers, serves_more, system_is_same}
 -- The opponent's game by a removal list and by the depth, and the depths of a system's pairs.
 pub use Rattle.roman_model.proofs.PlayLemmas.{depth_least, depth_won, great_holds, lost_fails, order_won, unlost_holds}
--- Numbers of lists of states and of pairs: bounds, and the change of a number where a state changes, comes or goes.
+-- Numbers of lists of states and of pairs: bounds, and the change of a number when a state is changed, added or removed.
 pub use Rattle.roman_model.proofs.NumberLemmas.{AreBelow-at, AreBelow-index, AreBelow-length, IsPairOf-at, IsPairOf-from, IsPairOf-grown, IsPairOf-moved, IsPairOf-without, count-grown, count-without, length-states_at, mul_cancel, number-grown}
 pub use Rattle.roman_model.proofs.NumberLemmas.{number-pair_at, number-set, number_below, number_without-is, numbers_are_pairs, pair_at-grown, pair_at-number, pair_at-without, pair_number, part_at, parts_of_number, product_append, size_at, states_at-number}
 pub use Rattle.roman_model.proofs.NumberLemmas.{states_below, states_number-at, states_number-set, states_number_below}

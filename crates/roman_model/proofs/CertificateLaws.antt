@@ -20,7 +20,7 @@ node_count s = length (numbered s).nodes
 abbrev IsFew : Sys → Type 0
 IsFew s = AreFew (node_count s) s.env.actions
 
--- each of the entries can stand in its certificate
+-- each of the entries can occur in its certificate
 abbrev ArePossible : Sys → List (Entry ℕ) → Type 0
 ArePossible s L = (x : Entry ℕ) → IsIn x L → IsIn x (possible_entries (node_count s) s.env.actions)
 
@@ -290,7 +290,7 @@ text_read s (head ∷ size ∷ body) small clean =
     subst (HoldsAll s) (sym (ap₂ (λ o p. cons_option o (cons_option p (entries_on (numbered s) body))) first second))
     (read_all s small head size [] body (record { open_yet = refl; possible = λ x i. absurd i; order = tt }) clean)
 
--- where no pair is missing, no reason holds at an unlisted pair
+-- if no pair is missing, no reason holds at an unlisted pair
 nothing_missing : (s : Sys) (L : List (Entry ℕ)) → IsSys s → end_fault (numbered s) L ≡ None →
     (p : ℕ) → p < count (sizes_of s) → IsFalse (is_listed (numbered s) L p) → (r : Reason) → IsFalse (is_justified (numbered s) (is_listed (numbered s) L) p r)
 nothing_missing s L sys ended p l unlisted r = grind (arith, by_test, both_ways, (any_false (could_be_listed (numbered s) L) p (below (count (sizes_of s))) (find_none (could_be_listed (numbered s) L) (below (count (sizes_of s))) (unmapped (find (could_be_listed (numbered s) L) (below (count (sizes_of s)))) ended)) (in_below (count (sizes_of s)) p l)), and_from, any_from, reason_in, (numbered_is_arena s sys))
@@ -306,7 +306,7 @@ clean_complete s text sys small clean =
     let are : AreNumbers s (entries_on (numbered s) text) = λ x i. (possible_number s x (all.possible x i)).0 in
     (are, numbered_completed_by s (entries_on (numbered s) text) sys are all.order (nothing_missing s (entries_on (numbered s) text) sys all.ended))
 
--- where the first of the faults, or else the other verdict, is that all is well, there is no fault
+-- no line has a fault if the first of the faults, or else the other verdict, accepts the text
 judged_clean : (s : Sys) (ls : List (List ℕ)) (n : ℕ) (otherwise : Verdict) (related : ℕ) (starts : Bool) → slice_index_or (faults (numbered s) ls n) 0 otherwise ≡ Greatest related starts →
     IsClean (numbered s) ls n × (Greatest related starts ≡ otherwise)
 judged_clean s ls n otherwise related starts e = elim (faults_cases (numbered s) ls n) [
@@ -371,7 +371,7 @@ verdict_within A start bytes ls line more why long is clean fault = grind (arith
 pub take_past : {X : Type 0} (n : ℕ) (xs ys : List X) → length xs ≤ n → take n (xs ++ ys) ≡ xs ++ take (n - length xs) ys
 take_past n xs ys l = let same : n ≡ length xs + (n - length xs) = omega arith in ap (λ m. take m (xs ++ ys)) same ∙ take-append-add xs ys (n - length xs)
 
--- the verdict where the newline of a faulty line is within the limit, whatever follows
+-- the verdict if the newline of a faulty line is within the limit, whatever follows
 pub verdict_rejected : (A : Arena ℕ) (start : ℕ) (bytes : List ℕ) (ls : List (List ℕ)) (line more : List ℕ) (why : Why) →
     bytes ≡ text_of_lines (ls ++ line ∷ []) ++ more → AreLines (ls ++ line ∷ []) → length (text_of_lines (ls ++ line ∷ [])) ≤ MAX_CERTIFICATE_BYTES →
     IsClean A ls (length ls) → line_fault A ls (Some line) ≡ Some why → cert_verdict A start bytes ≡ Rejected (length ls + 1) why
@@ -390,7 +390,7 @@ pub verdict_ended : (A : Arena ℕ) (start : ℕ) (bytes : List ℕ) (ls : List 
     IsClean A ls (length ls) → line_fault A ls None ≡ Some why → cert_verdict A start bytes ≡ Rejected (length ls + 1) why
 verdict_ended A start bytes ls why short is clean fault = grind (arith, (faults_first A ls (length ls + 1) (length ls) why clean (fault_over A ls ∙ fault) (omega arith)), (judged_short A start bytes short))
 
--- no line has a fault, and the text ends where it may
+-- no line has a fault, and the text may end there
 pub verdict_accepted : (A : Arena ℕ) (start : ℕ) (bytes : List ℕ) (ls : List (List ℕ)) → length bytes ≤ MAX_CERTIFICATE_BYTES → lines bytes ≡ ls →
     IsClean A ls (length ls) → line_fault A ls None ≡ None → cert_verdict A start bytes ≡ unlisted A start (entries_on A ls)
 verdict_accepted A start bytes ls short is clean over =

@@ -13,7 +13,7 @@ pub ended_lines-line : (line rest : List ℕ) → IsLine line → ended_lines (l
 ended_lines-line [] rest h = refl
 ended_lines-line (byte ∷ line) rest h = grind (arith, or_parts, (ended_lines-line line rest))
 
--- bytes without a newline are one line, or none where there are no bytes
+-- bytes without a newline are one line, or none if there are no bytes
 pub lines_last : (line : List ℕ) → IsLine line → line ≢ [] → lines line ≡ line ∷ []
 lines_last [] h some = absurd (some refl)
 lines_last (byte ∷ []) h some = grind (arith, cond-false, or_parts)
@@ -110,7 +110,7 @@ entry_starts x h b bs e = grind (arith, (decimal_starts x.node h.0))
 pub entry_is_no_end : (x : Entry ℕ) → IsSmall x → IsFalse (same_numbers end_line (entry_line x))
 entry_is_no_end x h = grind (arith, by_test, entry_starts, same_numbers_is)
 
--- Entries that can stand in a certificate
+-- Entries that can occur in a certificate
 
 pub act_reason : (actions a : ℕ) → a < actions → IsIn (Act a) (reasons actions)
 act_reason actions a l = inr (in_map Act a (below actions) (in_below actions a l))
@@ -153,11 +153,11 @@ pub entry_of-is : (pairs actions : ℕ) (line : List ℕ) (x : Entry ℕ) → en
 entry_of-is pairs actions line x e = let (i, same) = find_some (λ y. same_numbers (entry_line y) line) (possible_entries pairs actions) x e in
     grind (arith, same_numbers_is)
 
--- a line that isn't the line of any entry is read as none
+-- a line that isn't the line of any entry isn't read as an entry
 pub entry_of_none : (pairs actions : ℕ) (line : List ℕ) → ((x : Entry ℕ) → IsIn x (possible_entries pairs actions) → entry_line x ≡ line → ⊥) → entry_of pairs actions line ≡ None
 entry_of_none pairs actions line none = grind (arith, by_test, find_not_found, none_from, same_numbers_is)
 
--- a line that doesn't start with a digit is read as none
+-- a line that doesn't start with a digit isn't read as an entry
 pub entry_of_other : (pairs actions : ℕ) (b : ℕ) (bs : List ℕ) → AreFew pairs actions → 57 < b → entry_of pairs actions (b ∷ bs) ≡ None
 entry_of_other pairs actions b bs small h = entry_of_none pairs actions (b ∷ bs) (λ x i e. let l : b ≤ 57 = entry_starts x (possible_small pairs actions x small i) b bs e in omega arith)
 
@@ -184,7 +184,7 @@ pub faults_first : (A : Arena ℕ) (text : List (List ℕ)) (n i : ℕ) (why : W
 faults_first A text zero i why clean fault l = absurd (omega arith)
 faults_first A text (suc n) i why clean fault l = grind (arith, (cases_lt i n), faults_more, (faults_more A text n), faults_none, (faults_first A text n i why clean fault))
 
--- the line of a text, where more follow
+-- a line of a text, if more lines follow
 pub get_front : {X : Type 0} (xs ys : List X) (i : ℕ) → i < length xs → slice_get (xs ++ ys) i ≡ slice_get xs i
 get_front [] ys i l = absurd (omega arith)
 get_front (x ∷ xs) ys zero l = refl
@@ -200,7 +200,7 @@ clean_front A text more clean i l = ap₂ (line_fault A) (take-append-le i text 
 pub clean_push : (A : Arena ℕ) (text : List (List ℕ)) (line : List ℕ) → IsClean A text (length text) → line_fault A text (Some line) ≡ None → IsClean A (text ++ line ∷ []) (length (text ++ line ∷ []))
 clean_push A text line clean none i l = grind (arith, cases_lt, clean_front, get_after, take_at, length-append)
 
--- the fault of the line that follows, or the fault that none follows
+-- the fault of the line that follows, or the fault of a missing line
 pub fault_next : (A : Arena ℕ) (text more : List (List ℕ)) (line : List ℕ) → line_fault A (take (length text) (text ++ line ∷ more)) (slice_get (text ++ line ∷ more) (length text)) ≡ line_fault A text (Some line)
 fault_next A text more line = ap₂ (line_fault A) (take_at text (line ∷ more) (length text) refl) (get_after text line more)
 

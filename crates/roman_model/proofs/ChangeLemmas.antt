@@ -9,7 +9,7 @@ use Rattle.roman_model.proofs.CompositionLemmas.{system_is_same}
 
 -- Outcomes that are images of other outcomes
 
--- where f keeps the states of the target and the environment, and maps the states of seat j to those of seat k
+-- the outcomes of seat k are images of those of seat j, if g maps the states of seat j to those of seat k; the states of target and environment stay
 pub moved_named : (s : Sys) (seats : List Seat) (p : Pair) (a j k : ℕ) (states : List ℕ) (g : List ℕ → List ℕ) (bs : List ℕ) →
     ((b' : ℕ) → slice_set bs k b' ≡ g (slice_set p.bs j b')) →
     outcomes_by (record { env = s.env; target = s.target; seats = seats }) (record { t = p.t; e = p.e; bs = bs }) a k states
@@ -70,7 +70,7 @@ place_within _ _ n h l = omega arith
 
 -- Systems with other seats
 
--- where each seat has the behaviour of one of the system's own, and there are no more of them
+-- the system with these seats is well formed, if each has the behaviour of one of the system's own seats, and there are at most as many
 pub IsSys-seats : (s : Sys) (seats : List Seat) → ((x : Seat) → IsIn x seats → (y : Seat) × IsIn y s.seats × (x.beh ≡ y.beh)) → length seats ≤ length s.seats → IsSys s →
     IsSys (record { env = s.env; target = s.target; seats = seats })
 IsSys-seats s seats own few ok = record {
@@ -85,7 +85,7 @@ IsSys-seats s seats own few ok = record {
 abbrev pub behaviours : List Seat → List Beh
 behaviours seats = map (λ seat. seat.beh) seats
 
--- where the seats have the same behaviours, in the same order
+-- the system with these seats is well formed, if they have the same behaviours in the same order
 pub IsSys-alike : (s : Sys) (seats : List Seat) → behaviours seats ≡ behaviours s.seats → IsSys s → IsSys (record { env = s.env; target = s.target; seats = seats })
 IsSys-alike s seats same =
     IsSys-seats s seats (λ x i. from_map (λ seat. seat.beh) x.beh s.seats (subst (IsIn x.beh) same (in_map (λ seat. seat.beh) x seats i))) (grind (arith, length-map))
@@ -148,7 +148,7 @@ outcomes-turned s k frozen p a j ne = ap (λ o. outcomes_by s p a j (seat_next o
 pub outcomes-frozen : (s : Sys) (k : ℕ) (p : Pair) (a : ℕ) → outcomes (turned s k true) p a k ≡ []
 outcomes-frozen s k p a = search (rules, flat_map_none, seat_next-frozen)
 
--- a beaten seat stays beaten where a seat is frozen
+-- a beaten seat stays beaten when a seat is frozen
 pub freeze_beaten : (s : Sys) (k : ℕ) (gone : Pair → Bool) (p : Pair) (a j : ℕ) → IsTrue (is_beaten (arena s) gone p a j) → IsTrue (is_beaten (arena (turned s k true)) gone p a j)
 freeze_beaten s k gone p a j h = grind (arith, cases_eq, outcomes-frozen, outcomes-turned)
 
@@ -164,7 +164,7 @@ freeze_order s k before (x ∷ L) order = (order.0, freeze_justified s k (is_amo
 
 -- Distinct pairs, and lists of new ones
 
--- the arenas of two systems compare pairs alike
+-- the arenas of two systems compare pairs in the same way
 pub new_same : (s r : Sys) (before : List Pair) (L : List (Entry Pair)) → AreNew (arena s) before L → AreNew (arena r) before L
 new_same s r before [] new = tt
 new_same s r before (x ∷ L) new = (new.0, new_same s r (x.node ∷ before) L new.1)
@@ -266,7 +266,7 @@ die_justified s k seat gone lost seated carries p ok goes (Act a) h =
     justified_by (arena (left s k)) lost (without k p) a allowed
     (λ j l. die_beaten s k seat gone lost carries p a j goes (beaten (place_before k j) (subst (λ n. place_before k j < n) shorter (place_within k j (length (remove s.seats k)) (omega arith) l))))
 
--- where each earlier pair that may go was seen, the rest of a removal list stays one without the seat
+-- the rest of a removal list is a removal list without the seat, if the reduced pair of each earlier pair that may go was seen
 pub die_order : (s : Sys) (k : ℕ) (seat : Seat) → slice_get s.seats k ≡ Some seat → (before seen : List Pair) (L : List (Entry Pair)) → AreEntries s L →
     ((q : Pair) → IsTrue (is_among (arena s) before q) → IsTrue (may_go k seat q) → IsTrue (is_among (arena (left s k)) seen (without k q))) →
     IsOrderFrom (arena s) before L →
@@ -291,7 +291,7 @@ die_order s k seat seated before seen (x ∷ L) are carries order = by_test (may
     rest : List (Entry Pair)
     rest = map (entry_without k) (filter (λ y. may_go k seat y.node) L)
 
-    -- each earlier pair that may go is among more pairs, where x's pair is too
+    -- each earlier pair that may go is among more pairs, if x's pair is too
     next : (more : List Pair) → (IsTrue (may_go k seat x.node) → IsTrue (is_among (arena (left s k)) more (without k x.node))) →
         ((r : Pair) → IsTrue (is_among (arena (left s k)) seen r) → IsTrue (is_among (arena (left s k)) more r)) →
         (q : Pair) → IsTrue (is_among (arena s) (x.node ∷ before) q) → IsTrue (may_go k seat q) → IsTrue (is_among (arena (left s k)) more (without k q))

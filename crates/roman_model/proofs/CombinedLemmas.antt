@@ -26,7 +26,7 @@ stands_step beh a stands =
     let (e, j) = not_empty_in m.guard (not-true (is_empty m.guard) some) in
     (m.from, e, m.to, grind (arith, any_from, eqb-true, move_passes))
 
--- where the numbers are in range, an action occurs in a step exactly where the behaviour has a step on it
+-- if the numbers are in range, an action occurs in a step exactly when the behaviour has a step on it
 pub stands_uses : (env : Env) (beh : Beh) (a : ℕ) → IsBeh env beh → stands_in (Some beh) a ≡ uses env.states beh a
 stands_uses env beh a ok = same_test (stands_in (Some beh) a) (uses env.states beh a)
     (λ t.
@@ -158,23 +158,23 @@ all_final_combined _ _ _ _ _ = refl
 
 -- A combined action that is the request of a target.
 
--- the triples on it are triples on its plain action
+-- the triples on a combined action are triples on its plain action
 pub world_as : (w : Several) (e n e' : ℕ) (r : Request) → slice_get (all_requests w) n ≡ Some r → IsTrue (has_triple (combined w).env e n e') → IsTrue (has_triple w.env e r.action e')
 world_as w e n e' r at t = grind (arith, (from_combined_triple w e n e' t))
 
--- the steps on it are steps of its target
+-- the steps on a combined action are steps of its target
 pub member_step : (w : Several) (t e n t' : ℕ) (r : Request) (target : Beh) → slice_get (all_requests w) n ≡ Some r → slice_get w.targets r.target ≡ Some target →
     IsTrue (has_move (combined w).target t e n t') → IsMemberStep w n (states_of w t) e (states_of w t') r target
 member_step w t e n t' r target at member goes = grind (arith, same_Some, (from_combined_target w t e n t' goes))
 
--- it is allowed only where its target allows it
+-- a combined action is allowed only if its target allows it
 pub from_combined_allows : (w : Several) (t e n : ℕ) → Allows (combined w) t e n →
     (r : Request) × (target : Beh) × (slice_get (all_requests w) n ≡ Some r) × (slice_get w.targets r.target ≡ Some target) × Allows (of_one w target) (slice_index (states_of w t) r.target) e r.action
 from_combined_allows w t e n (t', e', joint) =
     let (ht, ht', r, target, step) = from_combined_target w t e n t' joint.1 in
     (r, target, step.request, step.member, (slice_index (states_of w t') r.target, e', (world_as w e n e' r step.request joint.0, step.goes)))
 
--- it is allowed where its target allows it
+-- a combined action is allowed if its target allows it
 pub combined_allows : (w : Several) (t e n : ℕ) (r : Request) (target : Beh) → IsSeveral w → t < total w → slice_get (all_requests w) n ≡ Some r → slice_get w.targets r.target ≡ Some target →
     Allows (of_one w target) (slice_index (states_of w t) r.target) e r.action → Allows (combined w) t e n
 combined_allows w t e n r target ok l at member (t', e', step) =
@@ -327,7 +327,7 @@ combined_system w ok =
       few = subst (λ n. n ≤ MAX_SERVICES) (sym (length-map w.seats (combined_seat w.env.states (all_requests w)))) ok.few;
     }
 
--- A pair of the combined system is related exactly where it is related for all targets.
+-- A pair of the combined system is related exactly when it is related for all targets.
 pub combined_is_all : CombinedIsAll
 combined_is_all w ok = record {
   system = combined_system w ok;

@@ -1,4 +1,4 @@
--- What the proof pages of this crate cite from elsewhere, passed on from one place. Declares nothing.
+-- Re-exports the names that the proof pages of this crate use from other crates. Declares nothing.
 pub use Rattle.std.proofs.Common.{All, Bool, Contains, IsFalse, IsTrue, List, None, Option, Some, [], add-one, ap, append-nil, append_assoc, ap₂, arith, codes, cond, count_by, count_ones, decimal, drop, drop-cons, false, filter, find, flat_map, get_or, if◌then◌else◌, inl, inr, le-leb, length, length-append, length-drop, length-take, map, nat_le, nat_lt, not, option_map, pred, refl, remove, rules, slice_get, slice_index, slice_index_or, slice_set, subst, suc, sum_by, sym, take, take-append-drop, true, zero, ℕ, ◌%◌, ◌&&◌, ◌*◌, ◌++◌, ◌+◌, ◌-◌, ◌/◌, ◌<◌, ◌==◌, ◌^◌, ◌||◌, ◌↔◌, ◌∙◌, ◌∷◌, ◌≡◌, ◌≢◌, ◌≤◌, ◌⊎◌}
 pub use Rattle.std.proofs.Math.Bool.{not-not, or-false, or-true}
 pub use Rattle.std.proofs.Math.Nat.{div-lt_iff_lt-mul, le-max_left, le-max_right, max-le}

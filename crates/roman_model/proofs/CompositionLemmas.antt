@@ -28,8 +28,8 @@ fine_is s p fine final = grind (arith, both_ways, not-true, or_cases)
 pub fine_from : (s : Sys) (p : Pair) → (IsTrue (is_final s.target p.t) → IsTrue (all_final s.seats p.bs)) → IsTrue (is_fine s p)
 fine_from s p h = grind (arith, by_test, not_from_false, or_left, or_right)
 
--- Clause 3: a seat serves where it has an outcome, and each outcome is related. The guards read the environment's present state, so a seat
--- that has an outcome has one for each target step.
+-- Clause 3: a seat serves if it has an outcome, and each outcome is related. The guards read the environment's present state, so a seat that
+-- has an outcome has one for each target step.
 
 pub serves_outcomes : (s : Sys) (Related : Couple → Type 0) (p : Pair) (a k : ℕ) → IsSys s → IsTrue (is_allowed s p a) → Serves s Related (couple p) a k →
     (k < length s.seats) × (outcomes s p a k ≢ []) × ((q : Pair) → IsIn q (outcomes s p a k) → Related (couple q))
@@ -92,7 +92,7 @@ survivors_sim s ps ok survive c i =
     (survives_meets s (λ d. IsIn d (map couple ps)) p ok
     (survives_more (arena s) (λ q. IsIn q ps) (λ q. IsIn (couple q) (map couple ps)) p (λ a k q l. in_map couple q ps) (survive p j)))
 
--- pairs that fail the test are related, where they survive among themselves
+-- pairs that fail the test are related, if they survive among themselves
 pub great_from : (s : Sys) (gone : Pair → Bool) → IsSys s →
     ((p : Pair) → IsPair s p → IsFalse (gone p) → Survives (arena s) (λ q. IsIn q (pairs s) × IsFalse (gone q)) p) →
     IsNdSim s (map couple (filter (λ p. not (gone p)) (pairs s)))
@@ -125,7 +125,7 @@ great_related s p ok great = grind (arith, by_test, lost_unrelated, not_from_fal
 pub listed_unrelated : (s : Sys) (L : List (Entry Pair)) (p : Pair) → IsSys s → IsOrder (arena s) L → IsTrue (is_listed (arena s) L p) → Great s p → ⊥
 listed_unrelated s L p ok order t great = listed_dead (arena s) (system_is_same s) (Great s) (λ q. great_survives s q ok) L order p t great
 
--- where no reason holds at an unlisted pair, the unlisted pairs are related
+-- if no reason holds at an unlisted pair, the unlisted pairs are related
 pub unlisted_related : (s : Sys) (L : List (Entry Pair)) → IsSys s →
     ((p : Pair) → IsPair s p → IsFalse (is_listed (arena s) L p) → IsTrue (is_fine s p)) →
     ((p : Pair) → IsPair s p → IsFalse (is_listed (arena s) L p) → (a : ℕ) → IsTrue (is_allowed s p a) → IsFalse (is_justified (arena s) (is_listed (arena s) L) p (Act a))) →
@@ -136,7 +136,7 @@ unlisted_related s L ok fine no_reason p pair f =
     (λ q q_pair g. survivor_within (arena s) (system_is_arena s ok) (is_listed (arena s) L) q (in_pairs s q q_pair) (fine q q_pair g) (no_reason q q_pair g)))
     pair f
 
--- a removal list is complete where no reason holds at an unlisted pair
+-- a removal list is complete if no reason holds at an unlisted pair
 pub completed_by : (s : Sys) (L : List (Entry Pair)) → IsSys s → AreEntries s L → IsOrder (arena s) L →
     ((p : Pair) → IsPair s p → IsFalse (is_listed (arena s) L p) → (r : Reason) → IsFalse (is_justified (arena s) (is_listed (arena s) L) p r)) → IsComplete s L
 completed_by s L ok entries order no_reason = record {
@@ -160,7 +160,7 @@ order_completed s L ok entries order fine some_left = completed_by s L ok entrie
         (λ t. mask_not_empty (arena s) (is_listed (arena s) L) p a (some_left p pair f a t))
         (λ g. unallowed_unjustified (arena s) (is_listed (arena s) L) p a g)
 
--- a pair is listed in a complete list exactly where it isn't related
+-- a pair is listed in a complete list exactly when it isn't related
 pub complete_listed : (s : Sys) (L : List (Entry Pair)) (p : Pair) → IsSys s → IsComplete s L → IsPair s p → is_listed (arena s) L p ≡ not (is_related s p)
 complete_listed s L p ok complete pair = same_test (is_listed (arena s) L p) (not (is_related s p))
     (λ t. by_test (is_related s p) (λ r. absurd ((complete.exact p pair).0 t (related_great s p ok pair r))) (λ f. not_from_false (is_related s p) f))

@@ -16,11 +16,11 @@ loses_down A m n p l f = by_test (loses A m p) (λ t. absurd (both_ways (loses A
 pub unlost_fine : {N : Type 0} (A : Arena N) (n : ℕ) (p : N) → IsFalse (loses A n p) → IsTrue (A.fine p)
 unlost_fine A n p f = not-false (A.fine p) (loses_down A zero n p (omega arith) f)
 
--- no action justifies the loss of a node within n + 1 requests that isn't lost then
+-- a node that isn't lost within n + 1 requests has no action that justifies its loss
 pub unlost_act : {N : Type 0} (A : Arena N) → IsArena A → (n : ℕ) (p : N) (a : ℕ) → IsFalse (loses A (suc n) p) → IsTrue (A.allows p a) → IsFalse (is_justified A (loses A n) p (Act a))
 unlost_act A ok n p a f allowed = grind (arith, any_false, (in_below A.actions a (ok.allowed p a allowed)))
 
--- A node that is lost within some requests doesn't hold out against them, for any notion of holding out whose clauses say as much of one request less.
+-- A node that is lost within some requests doesn't hold out against them, for any notion of holding out whose clauses state the same for one request less.
 pub lost_falls : {N : Type 0} (A : Arena N) (Holds : ℕ → N → Type 0) → ((p : N) → Holds zero p → IsTrue (A.fine p)) → ((n : ℕ) (p : N) → Holds (suc n) p → Holds n p × Survives A (Holds n) p) →
     (n : ℕ) (p : N) → IsTrue (loses A n p) → Holds n p → ⊥
 lost_falls A Holds fine survives zero p t v = both_ways (A.fine p) (not-true (A.fine p) t) (fine p v)
@@ -112,7 +112,7 @@ lost_depth A ok p i n t = by_found (depth A p) refl
 
 -- Settled lists.
 
--- where a removal list holds a node for each reason that holds, its nodes are exactly the lost ones
+-- if a removal list holds a node for each reason that holds, its nodes are exactly the lost ones
 pub settled_exact : {N : Type 0} (A : Arena N) → IsArena A → (L : List (Entry N)) → IsOrder A L →
     ((p : N) → IsIn p A.nodes → IsFalse (is_listed A L p) → (r : Reason) → IsFalse (is_justified A (is_listed A L) p r)) →
     (p : N) → IsIn p A.nodes → is_listed A L p ≡ loses A (length A.nodes) p

@@ -95,7 +95,7 @@ module _ {N : Type 0} (A : Arena N) (L : List (Entry N)) (p : N) where
   pub rests_closed : (x : Entry N) (q : N) → IsSame A → IsIn x L → IsTrue (rests_on A L (length L) p x.node) → IsIn q (answers A L x.node x.reason) → IsTrue (rests_on A L (length L) p q)
   rests_closed x q same i h j = rests_within (suc (length L)) q same (rests_step (length L) x q same i h j)
 
-  -- p's entry depends on the entry of q where q is p, or an answer to an entry on which p's depends
+  -- p's entry depends on the entry of q if q is p, or an answer to an entry on which p's depends
   pub rests_is : (q : N) → IsSame A →
       rests_on A L (length L) p q ≡ (A.same q p || list_any (λ x. rests_on A L (length L) p x.node && is_among A (answers A L x.node x.reason) q) L)
   rests_is q same = same_test (rests_on A L (length L) p q) (A.same q p || list_any (λ x. rests_on A L (length L) p x.node && is_among A (answers A L x.node x.reason) q) L)

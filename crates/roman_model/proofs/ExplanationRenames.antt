@@ -5,7 +5,7 @@ use Rattle.roman_model.proofs.Renames.{Renames, renamed_entry, AreNodes, HaveNod
 use Rattle.roman_model.proofs.NumberedArena.{IsNumber, AreNumbers, numbers_rename}
 use Rattle.roman_model.proofs.ExplanationLemmas.{from_option}
 
--- the first renamed element that passes, where the tests agree
+-- the first renamed element that passes, if the tests agree
 find_renamed : {X Y : Type 0} (f : X → Y) (p : X → Bool) (q : Y → Bool) (xs : List X) → ((x : X) → IsIn x xs → p x ≡ q (f x)) → option_map f (find p xs) ≡ find q (map f xs)
 find_renamed f p q [] same = refl
 find_renamed {X} {Y} f p q (x ∷ xs) same = grind (arith, (find_renamed f p q xs))

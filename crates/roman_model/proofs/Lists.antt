@@ -14,7 +14,7 @@ same_test true b to back = sym (to refl)
 same_test false true to back = back refl
 same_test false false to back = refl
 
--- a test that passes at m passes at each later n, where it passes from each number to the next
+-- a test that passes at m passes at each later n, if it passes at each number after one at which it passes
 pub passes_up : (p : ℕ → Bool) → ((n : ℕ) → IsTrue (p n) → IsTrue (p (suc n))) → (m n : ℕ) → m ≤ n → IsTrue (p m) → IsTrue (p n)
 passes_up p more m zero l t = let e : m ≡ 0 = omega arith in subst (λ k. IsTrue (p k)) e t
 passes_up p more m (suc n) l t = elim (cases_eq m (suc n)) [ inl e ↦ subst (λ k. IsTrue (p k)) e t | inr ne ↦ more n (passes_up p more m n (omega arith) t) ]
@@ -114,7 +114,7 @@ pub list_any-flat_map : {X Y : Type 0} (f : X → List Y) (p : Y → Bool) (xs :
 list_any-flat_map f p [] = refl
 list_any-flat_map f p (x ∷ xs) = list_any-append p (f x) (flat_map f xs) ∙ ap (λ b. list_any p (f x) || b) (list_any-flat_map f p xs)
 
--- some element of a list passes where some element of a part of it does
+-- some element of a list passes if some element of a part of it does
 pub any_within : {X : Type 0} (p : X → Bool) (xs ys : List X) → ((x : X) → IsIn x xs → IsIn x ys) → IsTrue (list_any p xs) → IsTrue (list_any p ys)
 any_within p xs ys within h = let (x, i, t) = any_true p xs h in any_from p x ys (within x i) t
 
@@ -172,7 +172,7 @@ pub all_below_from : (p : ℕ → Bool) (n : ℕ) → ((i : ℕ) → i < n → I
 all_below_from p zero h = refl
 all_below_from p (suc n) h = and_from (all_below p n) (p n) (all_below_from p n (λ i l. h i (omega arith))) (h n (omega arith))
 
--- a number below n fails where not all pass
+-- some number below n fails if not all pass
 pub all_below_false : (p : ℕ → Bool) (n : ℕ) → IsFalse (all_below p n) → (i : ℕ) × (i < n) × IsFalse (p i)
 all_below_false p zero h = absurd (true≢false h)
 all_below_false p (suc n) h = grind (arith, (all_below_false p n))
@@ -197,7 +197,7 @@ pub find_none : {X : Type 0} (p : X → Bool) (xs : List X) → find p xs ≡ No
 find_none p [] e = refl
 find_none p (y ∷ xs) e = grind (arith, by_test, cond-true, none-some, or_from, (find_none p xs))
 
--- where some element passes, an element is found
+-- if some element passes, an element is found
 pub find_found : {X : Type 0} (p : X → Bool) (xs : List X) → IsTrue (list_any p xs) → (x : X) × (find p xs ≡ Some x)
 find_found {X} p xs h = grind (arith, both_ways, find_none)
 
@@ -223,7 +223,7 @@ find_least p (suc n) i e = by_before (find p (below n)) refl (λ k found. find_l
         let same : i ≡ n = elim here [ inl h ↦ h | inr none ↦ absurd none ] in
         (omega arith, t, λ j m. any_false p j (below n) (find_none p (below n) before) (in_below n j (omega arith)))
 
--- the first number that passes is found where no smaller number passes
+-- the first number that passes is found if no smaller number passes
 pub find_first : (p : ℕ → Bool) (n i : ℕ) → i < n → IsTrue (p i) → ((j : ℕ) → j < i → IsFalse (p j)) → find p (below n) ≡ Some i
 find_first p n i l t least = grind (arith, both_ways, cases_order, (find_found p (below n) (any_from p i (below n) (in_below n i l) t)), find_least)
 
@@ -310,7 +310,7 @@ pub HasNoRepeats-filter : {X : Type 0} (p : X → Bool) (xs : List X) → HasNoR
 HasNoRepeats-filter p [] once = tt
 HasNoRepeats-filter p (x ∷ xs) once = grind (arith, filter_in, (HasNoRepeats-filter p xs once.1))
 
--- a map has no repeats where the function is injective on the elements
+-- a map has no repeats if the function is injective on the elements
 pub HasNoRepeats-map : {X Y : Type 0} (f : X → Y) (xs : List X) → ((x y : X) → IsIn x xs → IsIn y xs → f x ≡ f y → x ≡ y) → HasNoRepeats xs → HasNoRepeats (map f xs)
 HasNoRepeats-map f [] apart once = tt
 HasNoRepeats-map f (x ∷ xs) apart once = (
@@ -318,7 +318,7 @@ HasNoRepeats-map f (x ∷ xs) apart once = (
   HasNoRepeats-map f xs (λ y z i j. apart y z (inr i) (inr j)) once.1,
 )
 
--- a concatenation has no repeats where its lists have none and are disjoint
+-- a concatenation has no repeats if its lists have none and are disjoint
 pub HasNoRepeats-flat_map : {X Y : Type 0} (f : X → List Y) (xs : List X) → ((x : X) → IsIn x xs → HasNoRepeats (f x)) →
     ((x y : X) (z : Y) → IsIn x xs → IsIn y xs → IsIn z (f x) → IsIn z (f y) → x ≡ y) → HasNoRepeats xs → HasNoRepeats (flat_map f xs)
 HasNoRepeats-flat_map f [] each apart once = tt
@@ -355,7 +355,7 @@ sum_by_within {X} f (x ∷ xs) ys once within = let (before, after, e) = split_a
 
 -- Maps of maps
 
--- where two functions agree on the elements
+-- two functions that agree on the elements give the same concatenation
 pub flat_map_same_in : {X Y : Type 0} (f g : X → List Y) (xs : List X) → ((x : X) → IsIn x xs → f x ≡ g x) → flat_map f xs ≡ flat_map g xs
 flat_map_same_in f g [] same = refl
 flat_map_same_in f g (x ∷ xs) same = ap₂ (λ ys zs. ys ++ zs) (same x (inl refl)) (flat_map_same_in f g xs (λ y i. same y (inr i)))
@@ -364,7 +364,7 @@ pub map_same_in : {X Y : Type 0} (f g : X → Y) (xs : List X) → ((x : X) → 
 map_same_in f g [] same = refl
 map_same_in f g (x ∷ xs) same = ap₂ (λ y ys. y ∷ ys) (same x (inl refl)) (map_same_in f g xs (λ y i. same y (inr i)))
 
--- where two functions agree everywhere
+-- two functions that agree everywhere give the same concatenation
 pub flat_map_same : {X Y : Type 0} (f g : X → List Y) (xs : List X) → ((x : X) → f x ≡ g x) → flat_map f xs ≡ flat_map g xs
 flat_map_same f g xs same = flat_map_same_in f g xs (λ x i. same x)
 

@@ -1,4 +1,4 @@
--- Numbers of lists of states and of pairs: bounds, and the change of a number where a state changes, comes or goes.
+-- Numbers of lists of states and of pairs: bounds, and the change of a number when a state is changed, added or removed.
 use Rattle.roman_model.proofs.Common.{Some, slice_get, ◌≡◌, ℕ, zero, suc, ◌+◌, ◌*◌, ◌%◌, ◌<◌, List, [], ◌∷◌, ◌++◌, map, length, take, drop, slice_index, slice_set, remove, refl, sym, ap, ◌∙◌, arith, add-one, rules, ◌/◌, AllZip-long, AllZip, mul-add-lt, div-mul-add, mod-mul-add, div_below, mod_below, product_of, Seat, Sys, Pair, IsPair, Sizes, sizes_of, AreBelow, grown_sizes, sizes_without, count, states_number, states_at, number, pair_at, IsPairOf, NumbersArePairs, grown, without, number_without, AllZip-get_or, get_or_from_slice_get, div-lt_iff_lt-mul, IsSys, same_from_place}
 use Rattle.roman_model.proofs.Lists.{get_map}
 
@@ -96,7 +96,7 @@ AreBelow-drop _ _ _ h = elim h [ ]
 
 -- The number of a changed list of states
 
--- with another state at place k
+-- the number with another state at place k
 pub states_number-set : (sizes bs : List ℕ) (k b : ℕ) → k < length sizes → length bs ≡ length sizes →
     states_number sizes (slice_set bs k b) + slice_index bs k * product_of (drop (k + 1) sizes) ≡ states_number sizes bs + b * product_of (drop (k + 1) sizes)
 states_number-set (size ∷ sizes) (x ∷ bs) (suc k) b h l = grind (arith, (states_number-set sizes bs k b (omega arith) (omega arith)))
@@ -120,7 +120,7 @@ pub states_behind : (sizes bs : List ℕ) (k : ℕ) → AreBelow sizes bs → k 
     states_number (drop (k + 1) sizes) (drop (k + 1) bs) ≡ states_number sizes bs % product_of (drop (k + 1) sizes)
 states_behind sizes bs k h l = grind (arith, (AreBelow-drop sizes bs (k + 1) h), (AreBelow-length sizes bs h), mod-mul-add, (states_number-split sizes bs k l (AreBelow-length sizes bs h)), states_number_below)
 
--- without the state at place k
+-- the number without the state at place k
 pub states_number-remove : (sizes bs : List ℕ) (k : ℕ) → AreBelow sizes bs → k < length sizes →
     states_number (remove sizes k) (remove bs k)
     ≡ states_number sizes bs / product_of (drop (k + 1) sizes) / slice_index sizes k * product_of (drop (k + 1) sizes)
@@ -179,7 +179,7 @@ number-set n p k b h l = grind (arith, states_number-set)
 pub IsPairOf-moved : (n : Sizes) (p : Pair) (t e k b : ℕ) → IsPairOf n p → t < n.target → e < n.env → b < slice_index n.seats k → IsPairOf n (record { t = t; e = e; bs = slice_set p.bs k b })
 IsPairOf-moved n p t e k b ok x y z = record { t = x; e = y; bs = AreBelow-set n.seats p.bs k b ok.bs z }
 
--- Pairs with a state more or less
+-- Pairs with one more state or one less
 
 pub IsPairOf-grown : (n : Sizes) (p : Pair) (size b : ℕ) → IsPairOf n p → b < size → IsPairOf (grown_sizes n size) (grown p b)
 IsPairOf-grown n p size b ok h = record { t = ok.t; e = ok.e; bs = AreBelow-append n.seats (size ∷ []) p.bs (b ∷ []) ok.bs (h, tt) }

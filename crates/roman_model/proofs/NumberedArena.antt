@@ -8,7 +8,7 @@ use Rattle.roman_model.proofs.ArenaLemmas.{IsSame, IsArena, in_listed, listed_in
 use Rattle.roman_model.proofs.OrderLemmas.{order_new, new_once}
 use Rattle.roman_model.proofs.CompositionLemmas.{system_is_same, system_is_arena, complete_listed, order_completed}
 
--- numbers below the count are equal exactly where their pairs are
+-- numbers below the count are equal exactly when their pairs are
 pub same_at : (n : Sizes) (i j : ℕ) → i < count n → j < count n → (i == j) ≡ same_pair (pair_at n i) (pair_at n j)
 same_at n i j below_i below_j =
     same_test (i == j) (same_pair (pair_at n i) (pair_at n j))
@@ -50,7 +50,7 @@ module _ (s : Sys) where
   pub entries_at : (L : List (Entry ℕ)) → AreNumbers L → AreEntries s (map (entry_at s) L)
   entries_at L are x i = grind (arith, (from_map (entry_at s) x L i), (numbers_are_pairs s))
 
-  -- a number is listed exactly where its pair is listed
+  -- a number is listed exactly when its pair is listed
   pub listed_at : IsSys s → (L : List (Entry ℕ)) → AreNumbers L → (i : ℕ) → IsNumber i →
       is_listed (numbered s) L i ≡ is_listed (arena s) (map (entry_at s) L) (pair_at (sizes_of s) i)
   listed_at sys L are i l = listed_renamed (numbered s) (arena s) (pair_at (sizes_of s)) IsNumber (numbers_rename sys) L i are l
@@ -61,7 +61,7 @@ module _ (s : Sys) where
       mask_renamed (numbered s) (arena s) (pair_at (sizes_of s)) IsNumber (numbers_rename sys)
       (is_listed (numbered s) L) (is_listed (arena s) (map (entry_at s) L)) (λ j m. listed_at sys L are j m) i l a
 
-  -- a reason holds at a number exactly where it holds at its pair
+  -- a reason holds at a number exactly when it holds at its pair
   pub justified_at : IsSys s → (L : List (Entry ℕ)) → AreNumbers L → (i : ℕ) → IsNumber i → (r : Reason) →
       is_justified (numbered s) (is_listed (numbered s) L) i r ≡ is_justified (arena s) (is_listed (arena s) (map (entry_at s) L)) (pair_at (sizes_of s) i) r
   justified_at sys L are i l r =
@@ -102,7 +102,7 @@ numbered_is_arena s ok = record {
 
 -- Complete lists.
 
--- a list of numbers is complete where no reason adds a number to it
+-- a list of numbers is complete if no reason adds a number to it
 pub numbered_completed_by : (s : Sys) (L : List (Entry ℕ)) → IsSys s → AreNumbers s L → IsOrder (numbered s) L →
     ((i : ℕ) → i < count (sizes_of s) → IsFalse (is_listed (numbered s) L i) → (r : Reason) → IsFalse (is_justified (numbered s) (is_listed (numbered s) L) i r)) →
     IsCompleteList s L

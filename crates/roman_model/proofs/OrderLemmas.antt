@@ -11,7 +11,7 @@ pub order_from_push : {N : Type 0} (A : Arena N) (before : List N) (L : List (En
 order_from_push A before [] x order new unlisted j = grind (arith, false≢true, justified_more)
 order_from_push A before (y ∷ L) x order new unlisted j = grind (arith, justified_more, or_from, (order_from_push A (y.node ∷ before) L x order.2))
 
--- an entry that the list justifies can stand at its end
+-- an entry that the list justifies can be added at its end
 pub order_push : {N : Type 0} (A : Arena N) (L : List (Entry N)) (x : Entry N) → IsOrder A L → IsFalse (is_listed A L x.node) →
     IsTrue (is_justified A (is_listed A L) x.node x.reason) → IsOrder A (L ++ x ∷ [])
 order_push A L x order unlisted j = order_from_push A [] L x order refl unlisted j
@@ -44,7 +44,7 @@ new_once A E before (x ∷ L) new = (
 pub order_fits : {N : Type 0} (A : Arena N) → IsSame A → (L : List (Entry N)) → IsOrder A L → ((x : Entry N) → IsIn x L → IsIn x.node A.nodes) → length L ≤ length A.nodes
 order_fits A E L order within = grind (arith, from_map, length-map, new_once, no_longer, order_new)
 
--- the reason of an entry holds where the nodes of its list are gone
+-- the reason of an entry holds when the nodes of its list are gone
 pub order_from_justified : {N : Type 0} (A : Arena N) (before : List N) (L : List (Entry N)) (x : Entry N) → IsOrderFrom A before L → IsIn x L →
     IsTrue (is_justified A (λ q. is_among A before q || is_listed A L q) x.node x.reason)
 order_from_justified A before [] x order i = absurd i

@@ -17,7 +17,7 @@ reason_is : (s : Sys) (done : List (Entry Pair)) (x : Entry Pair) (rest : List (
 reason_is s [] x rest new = cond-true ((arena s).same x.node x.node) (Some x.reason) (reason_of s rest x.node) ((system_is_same s).itself x.node)
 reason_is s (y ∷ done) x rest new = grind (arith, or_parts, (reason_is s done x rest))
 
--- a listed pair has a reason, which holds where the pairs before it are gone
+-- a listed pair has a reason, which holds when the pairs before it are gone
 pub reason_found : (s : Sys) (L : List (Entry Pair)) (p : Pair) → IsOrder (arena s) L → IsTrue (is_listed (arena s) L p) →
     (r : Reason) × (reason_of s L p ≡ Some r) × IsTrue (is_justified (arena s) (is_listed (arena s) (entries_before (arena s) L p)) p r)
 reason_found s L p order t =
@@ -36,13 +36,13 @@ pub wins_after : (n : ℕ) (o : Option ℕ) → WinsWithin n o → WinsWithin (s
 wins_after n None w = w
 wins_after n (Some k) w = omega arith
 
--- One request against a seat: the opponent has won, or goes on from the first outcome that is gone, where the action is a reason.
+-- One request against a seat: if the action is a reason, the opponent has won, or continues from the first outcome that is gone.
 pub answered_wins : (s : Sys) (gone : Pair → Bool) (rest : Pair → Option ℕ) (n : ℕ) (p : Pair) (a k : ℕ) → k < length s.seats → IsTrue (is_justified (arena s) gone p (Act a)) →
     ((q : Pair) → IsIn q (outcomes s p a k) → IsTrue (gone q) → WinsWithin n (rest q)) →
     WinsWithin (suc n) (if not (has_ready s.seats) then Some 1 else (if is_empty (outcomes s p a k) then Some 1 else went_on rest (find gone (outcomes s p a k))))
 answered_wins s gone rest n p a k l j later = grind (arith, by_test, cond-true, cond-false, (justified_is (arena s) gone p a j), find_found, any_from, find_some, wins_after)
 
--- the same by the reason of a listed pair: the opponent goes on from an earlier pair
+-- the same by the reason of a listed pair: the opponent continues from an earlier pair
 pub request_wins : (s : Sys) (L : List (Entry Pair)) (n : ℕ) (p : Pair) (k : ℕ) (ks : List ℕ) (r : Reason) → k < length s.seats →
     IsTrue (is_justified (arena s) (is_listed (arena s) (entries_before (arena s) L p)) p r) →
     ((q : Pair) → IsTrue (is_listed (arena s) (entries_before (arena s) L p) q) → WinsWithin n (play s L q ks)) → WinsWithin (suc n) (play_at s L (k ∷ ks) p (Some r))
@@ -92,7 +92,7 @@ depth_wins_by s ok (suc n) (suc d) p (k ∷ ks) pair e few seats enough = let (b
     let (c, l, f) = lost_depth (arena s) (system_is_arena s ok) q (in_pairs s q q_pair) d lost in
     grind (arith, (depth_wins_by s ok n c q ks q_pair f (omega arith) seats.1 (omega arith))))))
 
--- where no seat is ready, the first request wins
+-- if no seat is ready, the first request wins
 pub depth_unanswered_wins : (s : Sys) (d : ℕ) (p : Pair) → depth (arena s) p ≡ Some d → IsFalse (has_ready s.seats) → WinsWithin d (depth_play s p [])
 depth_unanswered_wins s zero p e f = subst (λ o. WinsWithin zero (depth_play_at s [] p o (request_at s p o))) (sym e) (omega arith)
 depth_unanswered_wins s (suc d) p e f = grind (arith, (depth_is (arena s) p (suc d) e), refuting_found)
@@ -101,7 +101,7 @@ depth_unanswered_wins s (suc d) p e f = grind (arith, (depth_is (arena s) p (suc
 pub depth_won : DepthWins
 depth_won s ok p pair n e = search (rules, depth_unanswered_wins, depth_wins_by)
 
--- What holds out against more requests holds out against fewer.
+-- A couple that holds out against more requests holds out against fewer.
 holds_less : (s : Sys) (n : ℕ) (c : Couple) → HoldsOut s (suc n) c → HoldsOut s n c
 holds_less s zero c meets = meets.final
 holds_less s (suc n) c meets = meets_more s (HoldsOut s (suc n)) (HoldsOut s n) c (holds_less s n) meets

@@ -170,7 +170,7 @@ from_outcome s p a k q i = grind (arith, from_beh_next, from_env_next, from_flat
 pub outcome_seat : (s : Sys) (p : Pair) (a k : ℕ) (q : Pair) → IsIn q (outcomes s p a k) → (k < length s.seats) × IsTrue (is_ready (slice_get s.seats k))
 outcome_seat s p a k q i = grind (arith, from_outcome, not_from_false, slice_get_within)
 
--- A list of one state for each seat stays in range where one state is replaced.
+-- A list of one state for each seat stays in range when one state is replaced.
 pub states_set : (seats : List Seat) (bs : List ℕ) (k b : ℕ) (seat : Seat) → AllZip (λ seat b. b < seat.beh.states) seats bs →
     slice_get seats k ≡ Some seat → b < seat.beh.states → AllZip (λ seat b. b < seat.beh.states) seats (slice_set bs k b)
 states_set seats bs k b seat h e l = grind (arith, below_states, AreBelow-set, states_below, size_at)

@@ -44,14 +44,14 @@ freeze_one (suc k) (x ∷ xs) = grind (arith, freeze_same, or-false, other_zero,
 
 -- Two places.
 
--- leaving out the later place first
+-- two places are left out by removing the later one first
 pub leave_two : {X : Type 0} (k j : ℕ) (xs : List X) → k < j → leave_out (has (k ∷ j ∷ [])) xs ≡ remove (remove xs j) k
 leave_two zero (suc j) (x ∷ xs) l = grind (arith, (leave_one j xs), suc_same, zero_other)
 leave_two (suc k) (suc j) (x ∷ xs) l = grind (arith, leave_out_same, other_zero, suc_same, (leave_two k j xs (omega arith)))
 leave_two _ zero xs l = absurd (omega arith)
 leave_two _ _ _ _ = refl
 
--- leaving out the earlier place first: the later one moves down
+-- two places can also be removed with the earlier one first, after which the later one moves down
 pub remove_in_turn : {X : Type 0} (k j : ℕ) (xs : List X) → k < j → remove (remove xs k) (pred j) ≡ remove (remove xs j) k
 remove_in_turn zero zero xs l = absurd (omega arith)
 remove_in_turn (suc k) zero xs l = absurd (omega arith)

@@ -6,7 +6,7 @@ use Rattle.roman_model.specs.Lists.{below, all_below, is_empty}
 use Rattle.roman_model.specs.declared.reason.Reason.{Reason}
 use Rattle.roman_model.specs.declared.reason.Reason.TheVariants.{Final, Act}
 
--- a system as removal lists see it
+-- the facts about a system on which removal lists depend
 pub record Arena (N : Type 0) : Type 0 where
   pub same : N → N → Bool
   pub nodes : List N
@@ -34,12 +34,12 @@ is_listed A L p = list_any (λ x. A.same p x.node) L
 abbrev pub is_beaten : {N : Type 0} → Arena N → (N → Bool) → N → ℕ → ℕ → Bool
 is_beaten A gone p a k = is_empty (A.outcomes p a k) || list_any gone (A.outcomes p a k)
 
--- the reason holds at p, where the given nodes are gone
+-- the reason holds at p if the given nodes are gone
 abbrev pub is_justified : {N : Type 0} → Arena N → (N → Bool) → N → Reason → Bool
 is_justified A gone p Final = not (A.fine p)
 is_justified A gone p (Act a) = A.allows p a && all_below (is_beaten A gone p a) A.seats
 
--- the seats that have an outcome on the action, and no outcome that is gone, rising; empty where the action isn't allowed
+-- the seats that have an outcome on the action, and no outcome that is gone, rising; empty if the action isn't allowed
 abbrev pub mask : {N : Type 0} → Arena N → (N → Bool) → N → ℕ → List ℕ
 mask A gone p a = if A.allows p a then filter (λ k. not (is_beaten A gone p a k)) (below A.seats) else []
 
@@ -60,7 +60,7 @@ abbrev pub AreNew : {N : Type 0} → Arena N → List N → List (Entry N) → T
 AreNew A before [] = Unit {0}
 AreNew A before (x ∷ L) = IsFalse (is_among A before x.node) × AreNew A (x.node ∷ before) L
 
--- goes through the list in order, and keeps an entry where the entries kept so far justify it
+-- goes through the list in order, and keeps an entry if the entries kept so far justify it
 abbrev pub replay_from : {N : Type 0} → Arena N → List N → List (Entry N) → List (Entry N)
 replay_from A kept [] = []
 replay_from A kept (x ∷ L) =

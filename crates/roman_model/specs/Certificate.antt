@@ -40,7 +40,7 @@ end_line = codes "end"
 abbrev pub cert_lines : ℕ → List (Entry ℕ) → List (List ℕ)
 cert_lines pairs L = head_line ∷ count_line pairs ∷ (map entry_line L ++ end_line ∷ [])
 
--- the certificate of a removal list, where there are `pairs` pairs
+-- the certificate of a removal list over `pairs` pairs
 abbrev pub cert_text : ℕ → List (Entry ℕ) → List ℕ
 cert_text pairs L = text_of_lines (cert_lines pairs L)
 
@@ -63,7 +63,7 @@ pub data Verdict : Type 0 where
 abbrev pub reasons : ℕ → List Reason
 reasons actions = Final ∷ map Act (below actions)
 
--- all entries that can stand in a certificate, for these numbers of pairs and actions
+-- all entries that can occur in a certificate, for these numbers of pairs and actions
 abbrev pub possible_entries : ℕ → ℕ → List (Entry ℕ)
 possible_entries pairs actions = flat_map (λ p. map (λ r. record { node = p; reason = r }) (reasons actions)) (below pairs)
 
@@ -75,17 +75,17 @@ entry_of pairs actions line = find (λ x. same_numbers (entry_line x) line) (pos
 abbrev pub entries_on : Arena ℕ → List (List ℕ) → List (Entry ℕ)
 entries_on A lines = filter_map (entry_of (length A.nodes) A.actions) lines
 
--- no fault where the line is the expected one, and `Form` otherwise
+-- no fault if the line is the expected one, and `Form` otherwise
 abbrev pub unless_is : List ℕ → Option (List ℕ) → Option Why
 unless_is due None = Some Form
 unless_is due (Some line) = if same_numbers due line then None else Some Form
 
--- no fault where no line follows, and `Form` otherwise
+-- no fault if no line follows, and `Form` otherwise
 abbrev pub unless_over : Option (List ℕ) → Option Why
 unless_over None = None
 unless_over (Some line) = Some Form
 
--- no fault where the entry's pair isn't listed yet and its reason holds with the listed pairs removed
+-- no fault if the entry's pair isn't listed yet and its reason holds with the listed pairs removed
 abbrev pub entry_fault : Arena ℕ → List (Entry ℕ) → Option (Entry ℕ) → Option Why
 entry_fault A L None = Some Form
 entry_fault A L (Some x) =
@@ -125,7 +125,7 @@ abbrev pub unlisted : Arena ℕ → ℕ → List (Entry ℕ) → Verdict
 unlisted A start L =
     Greatest (length (filter (λ p. not (is_listed A L p)) A.nodes)) (not (is_listed A L start))
 
--- the verdict on a text, where `start` is the number of the start pair
+-- the verdict on a text; `start` is the number of the start pair
 abbrev pub cert_verdict : Arena ℕ → ℕ → List ℕ → Verdict
 cert_verdict A start bytes =
     if nat_le (length bytes) MAX_CERTIFICATE_BYTES
@@ -142,7 +142,7 @@ greatest s start = Greatest (related_count s) (is_related s (pair_at (sizes_of s
 abbrev pub IsWithinCells : Sys → Type 0
 IsWithinCells s = count (sizes_of s) * s.env.actions ≤ MAX_CELLS
 
--- the certificate of a complete removal list is accepted, where the system is within the limit on cells
+-- the certificate of a complete removal list is accepted if the system is within the limit on cells
 abbrev pub WrittenIsGreatest : Type 0
 WrittenIsGreatest = (s : Sys) (start : ℕ) (L : List (Entry ℕ)) → IsSys s → IsWithinCells s → start < count (sizes_of s) →
     ((x : Entry ℕ) → IsIn x L → x.node < count (sizes_of s)) → IsCompleteList s L →
@@ -154,7 +154,7 @@ pub record AcceptedIsComplete (s : Sys) (start : ℕ) (bytes : List ℕ) (relate
   pub complete : IsCompleteList s (entries_on (numbered s) (lines bytes))
   pub said : Greatest related starts ≡ greatest s start
 
--- an accepted text holds a complete removal list, where the system is within the limit on cells
+-- an accepted text holds a complete removal list if the system is within the limit on cells
 abbrev pub GreatestIsComplete : Type 0
 GreatestIsComplete = (s : Sys) (start : ℕ) (bytes : List ℕ) (related : ℕ) (starts : Bool) → IsSys s → IsWithinCells s → start < count (sizes_of s) →
     cert_verdict (numbered s) start bytes ≡ Greatest related starts → AcceptedIsComplete s start bytes related starts

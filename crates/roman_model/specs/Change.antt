@@ -8,7 +8,7 @@ use Rattle.roman_model.specs.SystemArena.{same_pair, arena}
 use Rattle.roman_model.specs.CompleteLists.{AreEntries}
 use Rattle.roman_model.specs.declared.limits.TheConstants.{MAX_SERVICES}
 
--- a change of the seats: a join carries the new seat, and a death carries the place and the seat that goes
+-- a change of the seats: a join carries the new seat, and a death carries the place and the seat that leaves
 pub data Change : Type 0 where
   Freeze : (k : ℕ) → Change
   Thaw : (k : ℕ) → Change

@@ -62,8 +62,8 @@ target_sizes targets = map (λ target. target.states) targets
 abbrev pub combined_start : List Beh → ℕ
 combined_start targets = states_number (target_sizes targets) (map (λ target. target.start) targets)
 
--- the targets as one: its states are the lists of one state for each target, the last target's state changing fastest; a state is final
--- where each member is final, and each step is a step of one of the targets
+-- The targets as one. Its states are the lists of one state for each target, and the last target's state changes fastest. A state is
+-- final if the state of each target is final, and each step is a step of one of the targets.
 abbrev pub combined_target : ℕ → List Request → List Beh → Beh
 combined_target env_states requests targets =
     beh_from env_states (length requests) (product_of (target_sizes targets)) (combined_start targets)
@@ -99,11 +99,11 @@ pub record IsSeveral (w : Several) : Type 0 where
 abbrev pub couple_all : Several → Pair → CoupleAll
 couple_all w p = record { ts = states_at (target_sizes w.targets) p.t; e = p.e; bs = p.bs; e2 = p.e }
 
--- the combined system is well formed, and a pair of it is related exactly where some simulation of all targets holds it
+-- the combined system is well formed, and a pair of it is related exactly when some simulation of all targets holds it
 pub record CombinedServesAll (w : Several) : Type 0 where
   pub system : IsSys (combined w)
   pub great : (p : Pair) → IsPair (combined w) p → Great (combined w) p ↔ GreatAll w (couple_all w p)
 
--- for all targets within the limits the combined system is well formed, and a pair of it is related exactly where some simulation of all targets holds it
+-- for all targets within the limits the combined system is well formed, and a pair of it is related exactly when some simulation of all targets holds it
 abbrev pub CombinedIsAll : Type 0
 CombinedIsAll = (w : Several) → IsSeveral w → CombinedServesAll w

@@ -17,7 +17,7 @@ abbrev pub entries_before : {N : Type 0} → Arena N → List (Entry N) → N �
 entries_before A [] p = []
 entries_before A (x ∷ L) p = if A.same p x.node then [] else x ∷ entries_before A L p
 
--- the defeating answer of seat k: its first outcome that stands earlier in the list than p
+-- the defeating answer of seat k: its first outcome that is listed before p
 abbrev pub answer : {N : Type 0} → Arena N → List (Entry N) → N → ℕ → ℕ → Option N
 answer A L p a k = find (is_listed A (entries_before A L p)) (A.outcomes p a k)
 
@@ -103,7 +103,7 @@ reason_name names (Act a) = name_at names.actions a
 abbrev pub lost_line : Names → Entry Pair → List ℕ
 lost_line names x = codes "lost " ++ pair_text names x.node ++ codes ": " ++ reason_name names x.reason
 
--- the line of seat k: that it cannot answer, or the states to which it may lead
+-- the line of seat k: it states that the seat cannot answer, or the states to which it may lead
 abbrev pub answer_line : Names → ℕ → Option Pair → List ℕ
 answer_line names k None = codes "  " ++ (seat_names names k).service ++ codes " cannot"
 answer_line names k (Some q) =

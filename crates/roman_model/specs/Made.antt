@@ -15,7 +15,7 @@ env_from states actions start goes = record {
       (below states);
 }
 
--- the step with the guard, or no step where the guard is empty
+-- the step with the guard, or no step if the guard is empty
 abbrev pub guarded_step : ℕ → ℕ → ℕ → List ℕ → List Move
 guarded_step b a b' [] = []
 guarded_step b a b' (e ∷ es) = record { from = b; guard = e ∷ es; action = a; to = b' } ∷ []

@@ -50,7 +50,7 @@ abbrev pub states_at : List ℕ → ℕ → List ℕ
 states_at [] i = []
 states_at (size ∷ sizes) i = i / product_of sizes ∷ states_at sizes (i % product_of sizes)
 
--- the number of a pair: the target's state counts most, then the environment's, then the seats'; the last seat's state changes fastest
+-- the number of a pair: the target's state is the most significant digit, then the environment's, then the seats'; the last seat's state changes fastest
 abbrev pub number : Sizes → Pair → ℕ
 number n p = (p.t * n.env + p.e) * product_of n.seats + states_number n.seats p.bs
 

@@ -39,7 +39,7 @@ worst s C p Leaf = 0
 worst s C p (Node seat next) =
     max_over (λ a. max_over (λ q. C (seat a) a + worst s C q (next a q)) (outcomes s p a (seat a))) (allowed_actions s p)
 
--- the first of x and the elements of the list with the least value, where x is the first least element so far
+-- the first of x and the elements of the list with the least value; x is the first least element so far
 abbrev pub least_from : (ℕ → ℕ) → ℕ → List ℕ → ℕ
 least_from f x [] = x
 least_from f x (y ∷ ys) = if nat_le (f x) (f y) then least_from f x ys else least_from f y ys
@@ -49,11 +49,11 @@ abbrev pub first_least : (ℕ → ℕ) → List ℕ → ℕ
 first_least f [] = 0
 first_least f (x ∷ xs) = least_from f x xs
 
--- the worst-case cost of delegating a to seat k, where `rest` is the cost of each pair that follows
+-- the worst-case cost of delegating a to seat k; `rest` is the cost of each pair that follows
 abbrev pub through : Sys → Costs → (Pair → ℕ) → Pair → ℕ → ℕ → ℕ
 through s C rest p a k = C k a + max_over rest (outcomes s p a k)
 
--- the least offered seat with the least worst-case cost for a, where `rest` is the cost of each pair that follows
+-- the least offered seat with the least worst-case cost for a; `rest` is the cost of each pair that follows
 abbrev pub choice_by : Sys → Costs → (Pair → ℕ) → Pair → ℕ → ℕ
 choice_by s C rest p a = first_least (through s C rest p a) (offers s p a)
 
@@ -62,7 +62,7 @@ abbrev pub least : Sys → Costs → ℕ → Pair → ℕ
 least s C zero p = 0
 least s C (suc h) p = max_over (λ a. through s C (least s C h) p a (choice_by s C (least s C h) p a)) (allowed_actions s p)
 
--- the seat to choose for an action, where h requests follow it
+-- the seat to choose for an action that h requests follow
 abbrev pub choice : Sys → Costs → ℕ → Pair → ℕ → ℕ
 choice s C h p a = choice_by s C (least s C h) p a
 

@@ -20,13 +20,13 @@ reason_of s (x ∷ L) p = if (arena s).same p x.node then Some x.reason else rea
 abbrev pub has_ready : List Seat → Bool
 has_ready seats = list_any (λ seat. not seat.frozen) seats
 
--- one more than the number of requests from the answer on, or none where there is no answer
+-- one more than the number of requests from the answer on, or none if there is no answer
 abbrev pub went_on : (Pair → Option ℕ) → Option Pair → Option ℕ
 went_on rest None = None
 went_on rest (Some q) = option_map suc (rest q)
 
--- The number of requests that the opponent makes from p until it has won, playing by the list, where the
--- given seats serve in turn. None where it hasn't won. The last argument is the reason of p's entry.
+-- The number of requests that the opponent makes from p until it has won, if it plays by the list and the
+-- given seats serve in turn. None if it hasn't won. The last argument is the reason of p's entry.
 abbrev pub play_at : Sys → List (Entry Pair) → List ℕ → Pair → Option Reason → Option ℕ
 play_at s L ks p None = None
 play_at s L ks p (Some Final) = Some 0
@@ -36,7 +36,7 @@ play_at s L (k ∷ ks) p (Some (Act a)) =
     else (if is_empty (outcomes s p a k) then Some 1
     else went_on (λ q. play_at s L ks q (reason_of s L q)) (answer (arena s) L p a k))
 
--- the play from p by the list, where the given seats serve in turn
+-- the play from p by the list, when the given seats serve in turn
 abbrev pub play : Sys → List (Entry Pair) → Pair → List ℕ → Option ℕ
 play s L p ks = play_at s L ks p (reason_of s L p)
 
@@ -69,7 +69,7 @@ request_at s p None = None
 request_at s p (Some zero) = None
 request_at s p (Some (suc d)) = refuting s d p
 
--- The play by depth: at depth d + 1 the opponent makes the least request that refutes p within d, and goes on at the first answer that is
+-- The play by depth: at depth d + 1 the opponent makes the least request that refutes p within d, and continues at the first answer that is
 -- lost within d. The last arguments are p's depth and that request.
 abbrev pub depth_play_at : Sys → List ℕ → Pair → Option ℕ → Option ℕ → Option ℕ
 depth_play_at s ks p None request = None
@@ -81,7 +81,7 @@ depth_play_at s (k ∷ ks) p (Some (suc d)) (Some a) =
     else (if is_empty (outcomes s p a k) then Some 1
     else went_on (λ q. depth_play_at s ks q (depth (arena s) q) (request_at s q (depth (arena s) q))) (find (loses (arena s) d) (outcomes s p a k)))
 
--- the play from p by depth, where the given seats serve in turn
+-- the play from p by depth, when the given seats serve in turn
 abbrev pub depth_play : Sys → Pair → List ℕ → Option ℕ
 depth_play s p ks = depth_play_at s ks p (depth (arena s) p) (request_at s p (depth (arena s) p))
 

@@ -27,7 +27,7 @@ are_final (target ∷ targets) [] = false
 are_final (target ∷ targets) (t ∷ ts) = is_final target t && are_final targets ts
 
 -- seat k serves a for the target at place i: for each step of that target some system step of k ends in the same environment state, and
--- each such system step leads into the relation, where no other target has moved
+-- each such system step leads into the relation, and no other target moves
 abbrev pub ServesAll : Several → (CoupleAll → Type 0) → CoupleAll → ℕ → Beh → ℕ → ℕ → Type 0
 ServesAll w Related c i target a k =
     (t' e' : ℕ) → TStep (of_one w target) (slice_index c.ts i) c.e a t' e' →

@@ -32,12 +32,12 @@ env_prev env e' a = filter (λ e. has_triple env e a e') (below env.states)
 abbrev pub beh_prev : Beh → ℕ → ℕ → ℕ → List ℕ
 beh_prev beh b' e a = filter (λ b. has_move beh b e a b') (below beh.states)
 
--- a seat's next states, rising; none where the seat is frozen or isn't there
+-- a seat's next states, rising; none if the seat is frozen or doesn't exist
 abbrev pub seat_next : Option Seat → ℕ → ℕ → ℕ → List ℕ
 seat_next None b e a = []
 seat_next (Some seat) b e a = if seat.frozen then [] else beh_next seat.beh b e a
 
--- the pairs to which a leads from p, where seat k goes to one of the states: ordered by the environment's next state, then by the seat's
+-- the pairs to which a leads from p if seat k goes to one of the states: ordered by the environment's next state, then by the seat's
 abbrev pub outcomes_by : Sys → Pair → ℕ → ℕ → List ℕ → List Pair
 outcomes_by s p a k states =
     flat_map (λ e'. flat_map (λ t'. map (λ b'. record { t = t'; e = e'; bs = slice_set p.bs k b' }) states)
@@ -52,7 +52,7 @@ outcomes s p a k = outcomes_by s p a k (seat_next (slice_get s.seats k) (slice_i
 abbrev pub is_allowed : Sys → Pair → ℕ → Bool
 is_allowed s p a = not (is_empty (env_next s.env p.e a)) && not (is_empty (beh_next s.target p.t p.e a))
 
--- clause 2 holds: where the target is in a final state, each seat that rests is too
+-- clause 2 holds: if the target is in a final state, each seat that rests is too
 abbrev pub is_fine : Sys → Pair → Bool
 is_fine s p = not (is_final s.target p.t) || all_final s.seats p.bs
 

@@ -41,7 +41,7 @@ pub record Outlook : Type 0 where
 abbrev pub outlook : Sys → Pair → Outlook
 outlook s p = record { composes = is_related s p; related = related_count s; choices = choice_count s }
 
--- where one or two seats fail, the system and the pair are those after as many changes
+-- if one or two seats fail, the system and the pair are those after as many changes
 pub record ChangesLeadThere (s : Sys) (p : Pair) : Type 0 where
   pub one_gone : (k : ℕ) (seat : Seat) →
       (after (change.Die k seat) s ≡ system_without way.Die (k ∷ []) s) × (without k p ≡ pair_without way.Die (k ∷ []) p)

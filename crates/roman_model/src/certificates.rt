@@ -3,16 +3,16 @@
 ghost use Rattle.roman_model.specs.Certificate.{GreatestIsComplete, WrittenIsGreatest};
 ghost use Rattle.roman_model.specs.Explanation.{ExplanationIsLeast, ExplanationIsOrder};
 
-/// The certificate of a complete removal list is accepted, where the system has no more cells than a
-/// document may allow. The verdict states the number of related pairs, and whether the start pair is
-/// related.
+/// The certificate of a complete removal list is accepted if the system has no more cells than a
+/// document may allow. The verdict states the number of related pairs, and whether the start pair
+/// is related.
 #[tactic(auto, using(crate::proofs::CertificateLaws::written_is_greatest))]
 pub fn written_is_greatest()
     ensures greatest { WrittenIsGreatest }
 {}
 
-/// An accepted certificate is a complete removal list, where the system has no more cells than a
-/// document may allow. The verdict states the number of related pairs, and whether the start pair is
+/// If the system has no more cells than a document may allow, an accepted certificate is a complete
+/// removal list. The verdict states the number of related pairs, and whether the start pair is
 /// related.
 pub fn greatest_is_complete()
     ensures complete { GreatestIsComplete }

@@ -7,7 +7,7 @@ ghost use Rattle.roman_model.specs.Plans.{PlansCostLeast};
 ghost use Rattle.roman_model.specs.Play.{DepthIsLeast, DepthWins, OrderWins};
 ghost use Rattle.roman_model.specs.Without.{WithoutByChanges};
 
-/// A removal list is complete where every unlisted pair meets clause 2 and has a seat in the mask of
+/// A removal list is complete if every unlisted pair meets clause 2 and has a seat in the mask of
 /// each allowed action.
 #[tactic(auto, using(crate::proofs::CompositionLemmas::order_completed))]
 pub fn order_completes()
@@ -35,9 +35,9 @@ pub fn depth_wins()
     ensures won { DepthWins }
 {}
 
-/// The depth of a pair is the least number of requests within which the opponent wins from it: no way
-/// of delegating holds out against so many, and some way holds out against fewer. A related pair has
-/// no depth.
+/// The depth of a pair is the least number of requests within which the opponent wins from it: no
+/// way of delegating holds out against that many, and some way holds out against any smaller
+/// number. A related pair has no depth.
 #[tactic(auto, using(crate::proofs::PlayLemmas::depth_least))]
 pub fn depth_is_least()
     ensures least { DepthIsLeast }
@@ -61,8 +61,8 @@ pub fn renaming_keeps()
     ensures kept { RenamingKeeps }
 {}
 
-/// A removal list over the numbers is complete over the pairs where every unlisted number meets
-/// clause 2 and has a seat in the mask of each allowed action.
+/// A removal list over the numbers is complete over the pairs if every unlisted number meets clause
+/// 2 and has a seat in the mask of each allowed action.
 #[tactic(auto, using(crate::proofs::NumberedArena::numbered_completed))]
 pub fn numbered_completes()
     ensures complete { NumberedCompletes }

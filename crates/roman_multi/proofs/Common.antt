@@ -1,4 +1,4 @@
--- What the proof pages of this crate cite from elsewhere, passed on from one place. Declares nothing.
+-- Re-exports the names that the proof pages of this crate use from other crates. Declares nothing.
 pub use Rattle.std.proofs.Common.{All, Bool, Err, IfOk, IsFalse, IsSome, IsTrue, List, MatchOption, None, Ok, Option, Result, Some, [], add-one, ap, append_assoc, ap₂, arith, cond, drop, false, filter, flat_map, get_or, inl, inr, is_some, length, map, not, refl, slice_get, slice_index, slice_set, subst, suc, sym, take, true, zero, ℕ, ◌%◌, ◌&&◌, ◌*◌, ◌++◌, ◌+◌, ◌<◌, ◌==◌, ◌^◌, ◌∙◌, ◌∷◌, ◌≡◌, ◌≤◌}
 pub use Rattle.std.proofs.lemmas.Bool.{and_from, and_parts, eq-eqb, eqb-true, false≢true, le-leb, le-ltb, lt-ltb, ltb-false, ne_eqb, or_from, true≢false}
 pub use Rattle.std.proofs.lemmas.List.{append-nil, get_or-map, length-map, map-append, take_all, take_more}

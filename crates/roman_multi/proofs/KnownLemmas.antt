@@ -19,7 +19,7 @@ size_is targets i d l = target_size_at (machines targets) i (get_or targets i d)
 pub sizes_length : (targets : List Named) → length (target_sizes (machines targets)) ≡ length targets
 sizes_length targets = length-map (machines targets) (λ (b : Beh). b.states) ∙ length-map targets (λ (named : Named). named.target.beh)
 
--- the sizes with one more
+-- the sizes of the targets so far, with one more target
 pub sizes_more : (targets : List Named) (i : ℕ) (d : Named) → i < length targets →
     target_sizes (machines (take (i + 1) targets)) ≡ target_sizes (machines (take i targets)) ++ (get_or targets i d).target.beh.states ∷ []
 sizes_more targets i d l =

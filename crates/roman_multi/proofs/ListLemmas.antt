@@ -20,10 +20,10 @@ flat_map_pushed f n old now new ys before step is =
 pub flat_map_begun : {Y : Type 0} (f : ℕ → List Y) (n : ℕ) (now new ys : List Y) → now ≡ flat_map f (below n) → new ≡ now ++ ys → ys ≡ f n → new ≡ flat_map f (below (n + 1))
 flat_map_begun f n now new ys before step is = step ∙ ap₂ (λ us vs. us ++ vs) before is ∙ sym (flat_map_row f n) ∙ ap (λ m. flat_map f (below m)) (sym (add-one n))
 
--- a list pushed for the next item
+-- the rules for appending the list of the next item
 pub ruleset pushed = (flat_map_pushed, slice_get-get_or)
 
--- a step that was found
+-- a step that is found has a next state
 pub goes_found : (o : Option ℕ) (xs : List ℕ) (b : Bool) → MatchOption o (xs ≡ []) (λ to. xs ≡ to ∷ []) → b ≡ is_some o → IsTrue b → IsTrue (not (is_empty xs))
 goes_found o xs b h is t = sym (goes_is o xs h) ∙ sym is ∙ t
 

@@ -30,7 +30,7 @@ pub new_more : (names table : List (List ℕ)) (i : ℕ) (name : List ℕ) → t
     IsFalse (list_any (stands_before names) (below (i + 1)))
 new_more names table i name front there new before = grind (arith, none_more)
 
--- or the next name occurs before
+-- the next name occurs before
 pub found_before : (names table : List (List ℕ)) (i place : ℕ) (name : List ℕ) → i < length names → table ≡ take i names → get_or names i [] ≡ name → place_of table name ≡ Some place →
     IsTrue (has_repeats names)
 found_before names table i place name l front there found =

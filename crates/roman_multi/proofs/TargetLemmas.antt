@@ -110,7 +110,7 @@ final_drop (x ∷ targets) [] i target t at l is = absurd (omega arith)
 final_drop (x ∷ targets) (u ∷ ts) zero target t at l is = ap₂ (λ b v. is_final b v && are_final targets ts) (same_Some x target at) (sym is)
 final_drop (x ∷ targets) (u ∷ ts) (suc i) target t at l is = final_drop targets ts i target t at (omega arith) is
 
--- whether the targets from a place on are final, where the test of the target at that place was told
+-- the test whether the targets from a place on are final, given the test of the target at that place
 pub final_next : (targets : List Named) (shape : Sizes) (t i state : ℕ) (d : Named) (told : Bool) → shape ≡ flat (target_sizes (machines targets)) → t < product_of (target_sizes (machines targets)) → i < length targets →
     state ≡ slice_index (pair_at shape t).bs i → told ≡ is_final (get_or targets i d).target.beh state →
     let ts = states_at (target_sizes (machines targets)) t in are_final (drop i (machines targets)) (drop i ts) ≡ (told && are_final (drop (i + 1) (machines targets)) (drop (i + 1) ts))

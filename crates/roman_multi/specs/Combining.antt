@@ -102,7 +102,7 @@ forbidding env targets =
     else (if has_one_name env targets then Some error.Repeated
     else None)))
 
--- a result obeys the rules: they allow a combination that was made, and an error is the first rule that forbids it; running out of memory states nothing
+-- a result obeys the rules: they allow a combination that was made, and an error is the first rule that forbids it; nothing is stated if memory runs out
 abbrev pub KeepsRules : Result Combined CombineError → Option CombineError → Type 0
 KeepsRules (Ok made) rule = rule ≡ None
 KeepsRules (Err error.States) rule = rule ≡ Some error.States

@@ -18,7 +18,7 @@ use Rattle.roman_multi.specs.declared.error.CombineError.TheVariants as error
 abbrev pub is_word : List ℕ → Bool
 is_word bytes = not (is_empty bytes) && list_all is_name_byte bytes
 
--- the sizes of the targets as sizes of pairs, where the target and the environment have one state each
+-- the sizes of the targets as sizes of pairs in which the target and the environment have one state each
 abbrev pub flat : List ℕ → Sizes
 flat sizes = record { target = 1; env = 1; seats = sizes }
 
@@ -76,7 +76,7 @@ next_of_all targets ts e None = []
 next_of_all targets ts e (Some r) =
     map (λ t'. states_number (target_sizes targets) (slice_set ts r.target t')) (member_next (slice_get targets r.target) (slice_index ts r.target) e r.action)
 
--- the table has the names, and no two are equal; or two are; running out of memory states nothing
+-- the result is the table of the names if no two are equal, and the error for repeated names otherwise; nothing is stated if memory runs out
 abbrev pub TablesNames : List (List ℕ) → Result (List (List ℕ)) CombineError → Type 0
 TablesNames names (Ok table) = (table ≡ names) × IsFalse (has_repeats names)
 TablesNames names (Err error.States) = ⊥
@@ -85,7 +85,7 @@ TablesNames names (Err error.LongName) = ⊥
 TablesNames names (Err error.Repeated) = IsTrue (has_repeats names)
 TablesNames names (Err error.Memory) = Unit {0}
 
--- the combined names, which obey the rules on names; or the first of these rules that is broken; running out of memory states nothing
+-- the result has the combined names if they obey the rules on names, and otherwise the first broken rule; nothing is stated if memory runs out
 abbrev pub AreCombinedNames : NamedEnv → List Named → Result (List (List ℕ) × List (List ℕ)) CombineError → Type 0
 AreCombinedNames env targets (Ok names) =
     (names.0 ≡ combined_state_names targets) × (names.1 ≡ request_names env targets) × IsFalse (has_long_name env targets) × IsFalse (has_one_name env targets)

@@ -1,4 +1,4 @@
--- What is combined: several targets, the numbers of their combined states, and their combined actions.
+-- The input of a combination: several targets, the numbers of their combined states, and their combined actions.
 use Rattle.std.specs.Prelude.{◌≡◌, ℕ, ◌<◌, ◌≤◌, List, length, slice_get, All}
 use Rattle.roman_model.specs.Lists.{product_of}
 use Rattle.roman_model.specs.Numbers.{states_at}

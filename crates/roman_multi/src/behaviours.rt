@@ -82,7 +82,6 @@ fn moves_of(alloc: Global, member: &Member) -> Result<Vec<Move>, AllocError>
     Ok(steps)
 }
 
-/// Returns the final states.
 #[tactic(auto, using(crate::proofs::KnownLemmas::over_states))]
 fn finals_of(alloc: Global, behaviour: &Behaviour) -> Result<Vec<u8>, AllocError>
     ensures { IfOk result

@@ -7,7 +7,7 @@ use std::alloc::{AllocError, AllocFailed};
 use thiserror::Error;
 
 /// Why targets can't be combined: the first rule that forbids it, in the order of the variants, or
-/// memory.
+/// a lack of memory.
 #[derive(Clone, Copy, Debug, PartialEq, Eq, Error)]
 pub enum CombineError {
     /// There are more than 64 combined states.

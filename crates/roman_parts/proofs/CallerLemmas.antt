@@ -5,7 +5,7 @@ pub use Rattle.roman_parts.proofs.NormalLemmas.{IsOver-start, IsOver-states, fro
 -- Lists of three and four items, and lists of steps that are read item by item.
 pub use Rattle.roman_parts.proofs.RowLemmas.{slice_range-append}
 pub use Rattle.roman_parts.proofs.StepLemmas.{items}
--- A number below a bound is kept by a filter exactly where it passes the test.
+-- A number below a bound is kept by a filter exactly when it passes the test.
 pub use Rattle.roman_parts.proofs.TableLemmas.{has_filter, states_below-filter}
 -- No choice is left.
 pub use Rattle.roman_parts.proofs.ChoiceLemmas.{first_below-none}

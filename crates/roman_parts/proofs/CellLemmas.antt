@@ -34,7 +34,7 @@ triples_none back actions size = record { has = λ e a n ha. empty_has size _ n 
 pub moves_none : (back : Bool) (env_states actions size : ℕ) → HasMoves back env_states actions [] (replicate size 0)
 moves_none back env_states actions size = record { has = λ b e a n he ha. empty_has size _ n }
 
--- two places in a table are equal where their rows and columns are equal
+-- two places in a table are equal if their rows and columns are equal
 same_place : (e a e1 a1 w : ℕ) → a < w → a1 < w → (e * w + a == e1 * w + a1) ≡ (e == e1 && a == a1)
 same_place e a e1 a1 w h h1 = same_test (e * w + a == e1 * w + a1) (e == e1 && a == a1)
     (λ t. let (row, column) = same_from_place e a e1 a1 w h h1 (eqb-true (e * w + a) (e1 * w + a1) t) in and_from (e == e1) (a == a1) (eq-eqb e e1 row) (eq-eqb a a1 column))
@@ -65,7 +65,7 @@ pub record MarksBelow (bound env_states actions : ℕ) (old new : List ℕ) (at 
       cell_has new ((b * env_states + e) * actions + a) m ≡ (cell_has old ((b * env_states + e) * actions + a) m || (at == b && action == a && has_state guard e && n == m))
   pub others : (b e a m : ℕ) → bound ≤ e → e < env_states → a < actions → cell_has new ((b * env_states + e) * actions + a) m ≡ cell_has old ((b * env_states + e) * actions + a) m
 
--- a test in the middle, where it is known
+-- a test in the middle whose value is known
 known_test : (x r y : Bool) → r ≡ true → ((x && r) && y) ≡ (x && y)
 known_test true r y h = rw h
 known_test false r y h = refl
@@ -75,7 +75,7 @@ failed_test true r y h = rw h
 failed_test false r y h = refl
 
 module _ (env_states actions bound at guard action n : ℕ) (old : List ℕ) (within : bound < env_states) where
-  -- an environment state in the guard, whose cell is marked
+  -- the marked cells, after the cell of an environment state in the guard
   pub marks_more : (mid new : List ℕ) → action < actions → has_state guard bound ≡ true → MarksBelow bound env_states actions old mid at guard action n →
       PutsIntoCell mid new ((at * env_states + bound) * actions + action) n → MarksBelow (bound + 1) env_states actions old new at guard action n
   marks_more mid new acts has_it marks puts = record {
@@ -90,7 +90,7 @@ module _ (env_states actions bound at guard action n : ℕ) (old : List ℕ) (wi
     others = λ b e a m past he ha. kept b e a m he ha (λ same. omega arith) ∙ marks.others b e a m (omega arith) he ha;
   }
     where
-      -- the cell of the environment state at hand
+      -- the cell of the next environment state
       own : (b a : ℕ) → a < actions → ((at * env_states + bound) * actions + action == (b * env_states + bound) * actions + a) ≡ (at == b && action == a)
       own b a ha =
           same_place (at * env_states + bound) action (b * env_states + bound) a actions acts ha
@@ -105,7 +105,7 @@ module _ (env_states actions bound at guard action n : ℕ) (old : List ℕ) (wi
           ne (same_from_place at bound b e env_states within he row).1))
           ∙ or-false _
 
-  -- an environment state that isn't in the guard
+  -- the marked cells stay the same after an environment state that isn't in the guard
   pub marks_same : (new : List ℕ) → has_state guard bound ≡ false → MarksBelow bound env_states actions old new at guard action n → MarksBelow (bound + 1) env_states actions old new at guard action n
   marks_same new lacks marks = record {
     marked = λ b e a m less ha. elim (cases_eq bound e) [

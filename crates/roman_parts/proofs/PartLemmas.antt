@@ -141,7 +141,7 @@ there_some names text there = (position_or_len (bytes_eq text) names, place_of-p
 pub none_absent : (names : List (List ℕ)) (text : List ℕ) → place_of names text ≡ None → IsIn text names → ⊥
 none_absent names text none there = let (k, some) = there_some names text there in cc
 
--- An environment is read where its parts are.
+-- An environment is read if its parts are.
 
 pub env_read : (d : Data) (states actions : List (List ℕ)) (start : ℕ) (triples : List Triple) → IsTrue (is_some (as_object d)) → names_of list.States (codes "states") MAX_STATES d ≡ Ok states → start_of states d ≡ Ok start →
     names_of list.Actions (codes "actions") MAX_ACTIONS d ≡ Ok actions → triples_of states actions d ≡ Ok triples →

@@ -20,7 +20,7 @@ slice_get-pieces bounds items k within = rw add-one (piece_at bounds items k (om
 
 pub ruleset row_steps = (length-pieces, slice_get-pieces)
 
--- a piece within the items stays the same where more items follow
+-- a piece within the items stays the same when more items follow
 pub slice_range-append : {X : Type 0} (items more : List X) (from to : ℕ) → to ≤ length items → slice_range (items ++ more) from to ≡ slice_range items from to
 slice_range-append items more from to within = grind (arith, between_is, take-append-le)
 

@@ -4,12 +4,12 @@ use Rattle.roman_parts.proofs.NormalLemmas.{from_normal_move}
 
 -- ---- results of the search for the first value
 
--- where it finds a number, f has the value there
+-- if the search finds a number, f has the value there
 found_at : {X : Type 0} (f : ℕ → Option X) (n k : ℕ) (x : X) → first_below f n ≡ Some (k, x) → (k < n) × (f k ≡ Some x)
 unfolding first_below
 found_at {X} f n k x h = grind (arith, find_least, none-some, same_Some)
 
--- where it finds none, f has no value
+-- if the search finds no number, f has no value
 nothing_at : {X : Type 0} (f : ℕ → Option X) (n j : ℕ) → first_below f n ≡ None → j < n → f j ≡ None
 unfolding first_below
 nothing_at {X} f n j h less = by_given (f j) refl

@@ -21,7 +21,7 @@ triples_added : (back : Bool) (states actions start : ℕ) (steps : List (ℕ ×
 triples_added false states actions start steps e a n = sym (list_any-map triple_of _ steps)
 triples_added true states actions start steps e a n = any_same _ _ steps (λ t i. and_turned (t.2 == e) (t.1 == a) (t.0 == n)) ∙ sym (list_any-map triple_of _ steps)
 
--- a number below the bound is in the filtered list exactly where it passes
+-- a number below the bound is in the filtered list exactly when it passes
 pub has_filter : (p : ℕ → Bool) (n i : ℕ) → i < n → has (filter p (below n)) i ≡ p i
 has_filter p n i less = grind (arith, any_from, any_true, (eq-eqb i i refl), eqb-true, filter_in, (in_below n i less), in_filter, (same_test (has (filter p (below n)) i) (p i)))
 

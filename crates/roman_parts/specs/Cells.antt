@@ -16,15 +16,15 @@ pub record PutsIntoCells (env_states actions : ℕ) (old new : List ℕ) (at gua
   pub has : (b e a m : ℕ) → e < env_states → a < actions →
       cell_has new ((b * env_states + e) * actions + a) m ≡ (cell_has old ((b * env_states + e) * actions + a) m || (at == b && action == a && has_state guard e && n == m))
 
--- the ends of a step, exchanged where the steps are taken back
+-- the ends of a step, exchanged if the steps are followed backwards
 abbrev pub ends : Bool → ℕ → ℕ → ℕ × ℕ
 ends back from to = if back then (to, from) else (from, to)
 
--- the step leads from state e by action a to state n, or back
+-- the step leads from state e by action a to state n, or backwards
 abbrev pub leads : Bool → ℕ × ℕ × ℕ → ℕ → ℕ → ℕ → Bool
 leads back t e a n = (ends back t.0 t.2).0 == e && t.1 == a && (ends back t.0 t.2).1 == n
 
--- the step goes from state b in environment state e by action a to state n, or back
+-- the step goes from state b in environment state e by action a to state n, or backwards
 abbrev pub goes : Bool → ℕ × ℕ × ℕ × ℕ → ℕ → ℕ → ℕ → ℕ → Bool
 goes back m b e a n = (ends back m.0 m.3).0 == b && m.2 == a && has_state m.1 e && (ends back m.0 m.3).1 == n
 

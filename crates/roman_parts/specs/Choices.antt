@@ -11,7 +11,7 @@ use Rattle.roman_parts.specs.declared.error.PartError.TheVariants.{Refused}
 unfoldable pub first_below : {X : Type 0} → (ℕ → Option X) → ℕ → Option (ℕ × X)
 first_below f n = option_and_then (λ k. option_map (λ x. (k, x)) (f k)) (find (λ k. is_some (f k)) (below n))
 
--- the least environment state in which two steps form a choice, where their guards rise
+-- the least environment state in which two steps form a choice, if their guards rise
 unfoldable pub choice_between : Option Move → Option Move → Option ℕ
 choice_between (Some m) (Some n) = if m.from == n.from && m.action == n.action && not (m.to == n.to) then find (has n.guard) m.guard else None
 choice_between m n = None
@@ -28,7 +28,7 @@ choice_with steps j = first_below (choice_at steps j) j
 unfoldable pub choice_of : List Move → Option (ℕ × (ℕ × ℕ))
 choice_of steps = first_below (choice_with steps) (length steps)
 
--- the steps, where there is no choice, and the refusal of the choice otherwise
+-- the steps, if there is no choice, and the refusal of the choice otherwise
 abbrev pub refuse_choice : List (List ℕ) → List Move → Option (ℕ × (ℕ × ℕ)) → Result (List Move) PartError
 refuse_choice env_states steps None = Ok steps
 refuse_choice env_states steps (Some (j, (i, e))) = Err (Refused (Choice i (slice_index_or env_states e [])) Steps j)

@@ -35,7 +35,7 @@ among_of states i items = do
   places ← each_item (pushing (state_in states i)) 0 [] items
   Ok (is_one_of places)
 
--- the meaning of a formula by the name of its operator, where its part is read as one guard or as a list of guards
+-- the meaning of a formula by the name of its operator; its part is read as one guard or as a list of guards
 abbrev pub operator_of : ℕ → List ℕ → Result (ℕ → Bool) PartError → Result (List (ℕ → Bool)) PartError → Result (ℕ → Bool) PartError
 operator_of i name one many =
     if bytes_eq name (codes "not") then (one >>= (λ set. Ok (complement set)))

@@ -11,7 +11,7 @@ triple_of t = record { from = t.0; action = t.1; to = t.2 }
 abbrev pub listed_env : ℕ → ℕ → ℕ → List (ℕ × ℕ × ℕ) → Env
 listed_env states actions start steps = record { states = states; actions = actions; start = start; triples = map triple_of steps }
 
--- the step (state, guard, action, state) as a record, where the guard is a word of states
+-- the step (state, guard, action, state) as a record; the guard is a word of states
 abbrev pub move_of : ℕ × ℕ × ℕ × ℕ → Move
 move_of m = record { from = m.0; guard = states_of m.1; action = m.2; to = m.3 }
 

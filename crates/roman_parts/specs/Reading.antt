@@ -18,11 +18,11 @@ abbrev pub looked : {X : Type 0} → Place → ℕ → Result X Miss → Result 
 looked list i (Ok x) = Ok x
 looked list i (Err miss) = Err (Refused (kind_of miss) list i)
 
--- the value, or the refusal where there is none
+-- the value, or the refusal if there is none
 abbrev pub found : {X : Type 0} → Kind → Place → ℕ → Option X → Result X PartError
 found rule list i there = ok_or there (Refused rule list i)
 
--- the value where it keeps the rule, or the refusal where it doesn't
+-- the value if it obeys the rule, and the refusal otherwise
 abbrev pub check : {X : Type 0} → Bool → Kind → Place → ℕ → X → Result X PartError
 check keeps rule list i x = if keeps then Ok x else Err (Refused rule list i)
 
@@ -36,12 +36,12 @@ counted_items list name least most d = do
   items ← items_at list name d
   check (nat_le least (items_len items) && nat_le (items_len items) most) kind.Count list 0 items
 
--- the refusal is the one that the definition gives; running out of memory states nothing
+-- the refusal is the one that the definition gives; nothing is stated if memory runs out
 abbrev pub Fails : {Y : Type 0} → PartError → Result Y PartError → Type 0
 Fails Memory reading = Unit {0}
 Fails (Refused rule list i) reading = reading ≡ Err (Refused rule list i)
 
--- the code returns what the definition gives, seen through a view, and refuses what it refuses
+-- the code returns the value that the definition gives, seen through a view, or the same refusal
 abbrev pub Gives : {X Y : Type 0} → (X → Y) → Result X PartError → Result Y PartError → Type 0
 Gives view (Ok x) reading = reading ≡ Ok (view x)
 Gives view (Err error) reading = Fails error reading

@@ -20,7 +20,7 @@ use std::marker::Model;
 pub(crate) struct Automaton {
     cells: Cells,
     start: u8,
-    // Bit b is set where b is a final state.
+    // Bit b is set if b is a final state.
     finals: u64,
     // The rows for state b, environment state e and action a: the states to which the steps go, and
     // the states from which they go to b.
@@ -71,7 +71,6 @@ impl Automaton {
         })
     }
 
-    /// Returns an equal automaton.
     pub(crate) fn copy(&self, alloc: Global) -> Result<Automaton, AllocError>
         ensures same { IfOk result (λ copy. copy ≡ self.now) }
     {
@@ -91,7 +90,6 @@ impl Automaton {
         let _cells = &self.cells;
     }
 
-    /// Returns the start state.
     pub(crate) fn start(&self) -> u8
         ensures start { result ≡ self.now.beh.start }
         ensures within { result < self.now.beh.states }
@@ -99,7 +97,6 @@ impl Automaton {
         self.start
     }
 
-    /// Returns whether `b` is a final state.
     pub(crate) fn is_final(&self, b: u8) -> bool
         requires { b < self.now.beh.states }
         ensures { result ≡ is_final self.now.beh b }

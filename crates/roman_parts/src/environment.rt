@@ -27,7 +27,7 @@ pub struct Environment {
     prev: Rows,
 }
 
-// One call. At each exit of a function that owns an environment, a derived drop would be a step for each vector.
+// One step in proofs. A derived drop adds a step for each vector at each exit of an owner.
 impl Drop for Environment {
     fn drop(self) {
         let Environment {

@@ -55,7 +55,7 @@ pub enum PartError {
         kind: Kind,
         /// The member or list that breaks the rule.
         list: List,
-        /// The number of the item, from 0. It is 0 also for the list as a whole, and for a member
+        /// The number of the item, from 0. It is also 0 for the list as a whole, and for a member
         /// that isn't a list.
         index: u32,
     },

@@ -30,7 +30,6 @@ pub(crate) fn read_states(
     Ok(compile(&guard, states.len() as u8))
 }
 
-/// Reads a value as a guard.
 #[cycle(formula)]
 #[tactic(auto, using(crate::proofs::GuardLemmas::guards))]
 fn read_guard(alloc: Global, states: &NameTable, v: &Value, index: u32) -> Result<Guard, PartError>
@@ -80,7 +79,6 @@ fn read_operator(
     Err(refused(Kind::Form, List::Steps, index))
 }
 
-/// Reads a list of guards.
 #[cycle(formula)]
 #[tactic(auto, using(crate::proofs::GuardLemmas::guard_lists))]
 fn read_guards(

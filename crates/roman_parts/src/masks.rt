@@ -33,7 +33,6 @@ impl Cells {
         }
     }
 
-    /// Returns the number of cells.
     pub(crate) fn count(&self) -> usize
         ensures count { result ≡ self.now.states * self.now.env_states * self.now.actions }
         ensures small { result ≤ 2 ^ 17 }

@@ -59,7 +59,7 @@ pub(crate) fn name_in(v: &Value, place: List, index: u32) -> Result<Name, PartEr
 }
 
 /// Returns the place of the name in a value, among at most 64 names. Fails with `Refused` exactly
-/// where the value isn't a text, or isn't one of the names. The refusal names item `index` of the
+/// when the value isn't a text, or isn't one of the names. The refusal names item `index` of the
 /// list `place`. Takes no memory.
 #[tactic(auto, unfolding(crate::specs::Lists::place_in))]
 pub fn place_in(names: &NameTable, v: &Value, place: List, index: u32) -> Result<u8, PartError>
@@ -74,7 +74,6 @@ pub fn place_in(names: &NameTable, v: &Value, place: List, index: u32) -> Result
     }
 }
 
-/// Reads the start state.
 #[tactic(auto, unfolding(crate::specs::Lists::start_of))]
 pub(crate) fn read_start(states: &NameTable, v: &Value) -> Result<u8, PartError>
     requires { length states.now ≤ 64 }

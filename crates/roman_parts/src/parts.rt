@@ -19,7 +19,7 @@ use std::alloc::Global;
 
 #[tactic(auto, unfolding(crate::specs::Parts::environment_of))]
 /// Reads an environment from a JSON value in the form of system documents. Fails with `Refused`
-/// exactly where the value breaks a rule, with the first broken rule in the order of the format, and
+/// exactly when the value breaks a rule, with the first broken rule in the order of the format, and
 /// with `Memory` when out of memory.
 pub fn read_environment(alloc: Global, v: &Value) -> Result<Environment, PartError>
     ensures environment { Gives (λ x. x) result (environment_of (view v.now)) }
@@ -36,8 +36,8 @@ pub fn read_environment(alloc: Global, v: &Value) -> Result<Environment, PartErr
 
 #[tactic(auto, unfolding(crate::specs::Parts::behaviour_of))]
 /// Reads a behaviour over `env` from a JSON value in the form of system documents. Doesn't check
-/// whether another behaviour has its name. Fails with `Refused` exactly where the value breaks a
-/// rule, with the first broken rule in the order of the format, and with `Memory` when out of memory.
+/// whether another behaviour has its name. Fails with `Refused` exactly when the value breaks a rule,
+/// with the first broken rule in the order of the format, and with `Memory` when out of memory.
 pub fn read_behaviour(alloc: Global, v: &Value, env: &Environment) -> Result<Behaviour, PartError>
     ensures behaviour { Gives (λ x. x) result (behaviour_of env.now (view v.now)) }
 {
@@ -54,7 +54,7 @@ pub fn read_behaviour(alloc: Global, v: &Value, env: &Environment) -> Result<Beh
 
 #[tactic(auto, using(crate::proofs::SingleLemmas::single_steps), unfolding(crate::specs::Parts::target_of))]
 /// Reads a target over `env` from a JSON value in the form of system documents. Ignores a member
-/// `name`. Fails with `Refused` exactly where the value breaks a rule, with the first broken rule in
+/// `name`. Fails with `Refused` exactly when the value breaks a rule, with the first broken rule in
 /// the order of the format, and with `Memory` when out of memory.
 pub fn read_target(alloc: Global, v: &Value, env: &Environment) -> Result<Target, PartError>
     ensures target { Gives (λ x. x) result (target_of env.now (view v.now)) }
@@ -71,7 +71,7 @@ pub fn read_target(alloc: Global, v: &Value, env: &Environment) -> Result<Target
 }
 
 #[tactic(auto, unfolding(crate::specs::Parts::name_of))]
-/// Returns the name of a part: its member `name`. Fails with `Refused` exactly where the part isn't
+/// Returns the name of a part: its member `name`. Fails with `Refused` exactly when the part isn't
 /// an object, or the member is missing, isn't a text, or isn't a name.
 pub fn read_name(v: &Value) -> Result<Name, PartError>
     ensures name { Gives (λ x. x) result (name_of (view v.now)) }

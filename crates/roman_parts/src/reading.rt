@@ -20,7 +20,7 @@ pub fn refused(kind: Kind, place: List, index: u32) -> PartError
     }
 }
 
-/// Returns the value that a look-up found, or the refusal of its miss, with the place. Takes no memory.
+/// Returns the value of a look-up, or the refusal of its miss at the place. Takes no memory.
 pub fn looked<T>(read: Result<T, Miss>, place: List, index: u32) -> Result<T, PartError>
     ensures { result ≡ looked place index read }
 {
@@ -51,9 +51,9 @@ pub(crate) fn list_member<'a>(
 }
 
 #[tactic(auto, using(crate::proofs::StepLemmas::counts), unfolding(crate::specs::Reading::counted_items))]
-/// Returns the items of a member that is an array with `least` to `most` items. Fails with `Refused`
-/// exactly where the value isn't an object, or the member is missing, isn't an array, or has fewer or
-/// more items. The refusal names the list `place`. Takes no memory.
+/// Returns the items of a member that is an array with `least` to `most` items. Fails with
+/// `Refused` exactly when the value isn't an object, or the member is missing, isn't an array, or
+/// has fewer or more items. The refusal names the list `place`. Takes no memory.
 pub fn counted_member<'a>(
     v: &'a Value,
     name: &str,

@@ -41,7 +41,6 @@ impl Rows {
         Ok(Rows { bounds, items })
     }
 
-    /// Returns equal rows.
     pub(crate) fn copy(&self, alloc: Global) -> Result<Rows, AllocError>
         ensures same { IfOk result (λ copy. copy ≡ self.now) }
     {
@@ -52,7 +51,6 @@ impl Rows {
     }
 
     #[tactic(auto, using(crate::proofs::RowLemmas::row_steps))]
-    /// Returns the row at place `k`.
     pub(crate) fn row(&self, k: usize) -> &[u8]
         requires { k < length self.now }
         ensures row { slice_get self.now k ≡ Some result.now }

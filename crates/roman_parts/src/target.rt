@@ -26,7 +26,7 @@ pub struct Target {
     automaton: Automaton,
 }
 
-// One call. At each exit of a function that owns a target, a derived drop would be a step for each vector.
+// One step in proofs. A derived drop adds a step for each vector at each exit of an owner.
 impl Drop for Target {
     fn drop(self) {
         let Target {
@@ -133,8 +133,8 @@ impl Target {
         self.automaton.is_final(t)
     }
 
-    /// Returns the state to which action `a` goes from state `t` in environment state `e`, or `None`
-    /// exactly where there is no such state.
+    /// Returns the state to which action `a` goes from state `t` in environment state `e`, or
+    /// `None` exactly when there is no such state.
     #[tactic(auto, using(crate::proofs::NormalLemmas::single_next))]
     pub fn step(&self, t: u8, e: u8, a: u8) -> Option<u8>
         requires state { t < self.now.beh.states }

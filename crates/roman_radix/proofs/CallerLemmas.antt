@@ -1,4 +1,4 @@
--- What the proofs of other crates may cite of this one. All else in proofs/ can be renamed freely.
+-- The lemmas of this crate that proofs of other crates may cite. All else in proofs/ can be renamed freely.
 
 -- Products of sizes, and the table of strides.
 pub use Rattle.roman_radix.proofs.Strides.{AreSizes-drop, AreSizes-index, product_more, product_positive}

@@ -7,7 +7,7 @@ pub record Replaced (n : Sizes) (p k b part state stride : ℕ) : Type 0 where
   pub number : p - part * stride + state * stride ≡ number n (with_part (pair_at n p) k b)
   pub below : p - part * stride + state * stride < count n
 
--- what the state of component k adds to a pair's number
+-- the amount that the state of component k contributes to a pair's number
 pub taken : (n : Sizes) (p k : ℕ) → p < count n → k < length n.seats → slice_index (pair_at n p).bs k * stride_of n k ≤ p
 taken n p k in_range component = omega (arith, number-set n (pair_at n p) k 0 component (AreBelow-length n.seats (pair_at n p).bs (IsPairOf-at n p in_range).bs), number-pair_at n p in_range)
 
@@ -55,6 +55,6 @@ pub states_more : (sizes bs : List ℕ) (k : ℕ) → k < length sizes → k < l
     states_number (drop k sizes) (drop k bs) ≡ slice_index bs k * product_of (drop (k + 1) sizes) + states_number (drop (k + 1) sizes) (drop (k + 1) bs)
 states_more sizes bs k size state = grind (arith, (drop_more sizes k 0 size), (drop_more bs k 0 state))
 
--- where no state is left, the number is 0
+-- if no state is left, the number is 0
 pub states_end : (sizes bs : List ℕ) (k : ℕ) → length sizes ≤ k → states_number (drop k sizes) (drop k bs) ≡ 0
 states_end sizes bs k past = grind (arith, drop_all)

@@ -66,7 +66,7 @@ row_mod row w lane r h =
     let rows : (row / r * r + row % r) * w ≡ row * w = ap (λ x. x * w) (div-add-mod' row r) in
     omega arith
 
--- where a pair isn't before a row, neither is its own row
+-- if a pair isn't before a row, neither is its own row
 pub row_least : (x y w lane : ℕ) → lane < w → x * w ≤ y * w + lane → x ≤ y
 row_least x y w lane h l = grind (arith, cases_lt, mul-le)
 
@@ -92,7 +92,7 @@ length_rows n = length-take-le (low_of n.seats) n.seats (low_of-le n.seats)
 pub row_size : (n : Sizes) (k : ℕ) → k < low_of n.seats → slice_index (row_sizes n).seats k ≡ slice_index n.seats k
 row_size n k l = get_or-take (low_of n.seats) n.seats k 0 l
 
--- what one more state of a component adds to a row's number
+-- how much a row's number grows if the state of a component grows by 1
 pub row_stride_of : (n : Sizes) (k : ℕ) → k < low_of n.seats → stride_of (row_sizes n) k * lanes_of n.seats ≡ stride_of n k
 row_stride_of n k l = product_middle n.seats (k + 1) (low_of n.seats) (omega arith)
 

@@ -42,21 +42,21 @@ stride_at ns strides k e h = grind (arith, padded-index, strides_of-index)
 pub size_at : (ns sizes : List ℕ) (k : ℕ) → sizes ≡ padded ns → get_or sizes k 0 ≡ get_or ns k 0
 size_at ns sizes k e = ap (λ xs. get_or xs k 0) e ∙ padded-index ns k
 
--- a padded table has c first numbers
+-- the first c numbers of a padded table are c numbers
 pub length_first : (c : ℕ) (table : List ℕ) → table ≡ padded (take c table) → c ≤ MAX_SERVICES → length (take c table) ≡ c
 length_first c table e h = grind (arith, length-padded, length-take)
 
--- one more factor in the product
+-- the product from an earlier place on has one more factor
 pub product_more : (ns : List ℕ) (j k stride size : ℕ) → k ≡ j + 1 → j < length ns → size ≡ get_or ns j 0 → stride ≡ product_of (drop k ns) → stride * size ≡ product_of (drop j ns)
 product_more ns j k stride size here in_range is product =
     let next : product_of (drop j ns) ≡ get_or ns j 0 * product_of (drop k ns) = ap product_of (drop_more ns j 0 in_range ∙ ap (λ n. get_or ns j 0 ∷ drop n ns) (sym here)) in
     rw (is, product, next) (omega arith)
 
--- a table of zeros
+-- each number of a table of zeros is 0
 pub zero_at : (n : ℕ) (zeros : List ℕ) (i : ℕ) → zeros ≡ replicate n zero → get_or zeros i 0 ≡ 0
 zero_at n zeros i e = grind (arith, cases_lt, get_or-replicate, get_or_past, length-replicate)
 
--- the finished table
+-- a table that is filled in at each place is the table of strides
 pub strides_all : (ns strides : List ℕ) → length strides ≡ MAX_SERVICES → length ns ≤ MAX_SERVICES → ((i : ℕ) → i < length ns → get_or strides i 0 ≡ product_of (drop (i + 1) ns)) → ((i : ℕ) → length ns ≤ i → get_or strides i 0 ≡ 0) →
     strides ≡ padded (strides_of ns)
 strides_all ns strides long few table rest =
@@ -72,6 +72,6 @@ positive_by_recursion (n ∷ ns) h = mul-pos h.0 (positive_by_recursion ns h.1)
 pub positive_rest : (k : ℕ) (ns : List ℕ) → All (λ n. 0 < n) ns → 0 < product_of (drop k ns)
 positive_rest k ns h = positive_by_recursion (drop k ns) (recursion_from_All (λ n. 0 < n) (drop k ns) (All-drop (λ n. 0 < n) k ns h))
 
--- where the product so far exceeds the cap, the whole product does
+-- if the product so far exceeds the cap, the whole product does
 pub too_many : (pairs rest whole cap : ℕ) → 0 < rest → pairs * rest ≡ whole → cap < pairs → whole ≤ cap → ⊥
 too_many pairs rest whole cap positive product more fits = grind (arith, mul-le-mul_left)

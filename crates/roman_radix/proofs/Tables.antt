@@ -32,7 +32,7 @@ AreSizes-append : (ms ns : List ℕ) → AreSizes ms → AreSizes ns → AreSize
 AreSizes-append [] ns h g = g
 AreSizes-append (m ∷ ms) ns h g = (h.0, h.1, AreSizes-append ms ns h.2 g)
 
--- numbers are in range where the number at each place is
+-- numbers are in range if the number at each place is
 pub AreSizes-from : (ns : List ℕ) → ((k : ℕ) (d : ℕ) → k < length ns → 0 < get_or ns k d) → ((k : ℕ) → get_or ns k 0 < 2 ^ 8) → AreSizes ns
 AreSizes-from [] low high = tt
 AreSizes-from (n ∷ ns) low high = (low 0 0 (omega arith), high 0, AreSizes-from ns (λ k d h. low (suc k) d (omega arith)) (λ k. high (suc k)))

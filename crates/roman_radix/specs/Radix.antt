@@ -18,15 +18,15 @@ pub record IsSizes (n : Sizes) : Type 0 where
   pub few : length n.seats ≤ MAX_SERVICES
   pub counted : count n < 2 ^ 32
 
--- what one more state of component k adds to a pair's number
+-- how much a pair's number grows if the state of component k grows by 1
 abbrev pub stride_of : Sizes → ℕ → ℕ
 stride_of n k = product_of (drop (k + 1) n.seats)
 
--- what one more state of the environment adds to a pair's number
+-- how much a pair's number grows if the environment's state grows by 1
 abbrev pub env_stride_of : Sizes → ℕ
 env_stride_of n = product_of n.seats
 
--- what one more state of the target adds to a pair's number
+-- how much a pair's number grows if the target's state grows by 1
 abbrev pub target_stride_of : Sizes → ℕ
 target_stride_of n = n.env * product_of n.seats
 

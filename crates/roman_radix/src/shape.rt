@@ -18,9 +18,9 @@ const MAX_LANES: u32 = 64;
 ///
 /// A pair has the target's state t, the environment's state e and the states b1, b2, .. of the
 /// components. Its number is `((t * E + e) * s1 + b1) * s2 + b2` and so on, where E is the
-/// environment's size and s1, s2, .. are the sizes of the components. A shape also keeps strides: the
-/// stride of a part is what one more of its states adds to a number. So changing one state of a pair
-/// takes one multiplication.
+/// environment's size and s1, s2, .. are the sizes of the components. A shape also has strides: the
+/// stride of a part is the amount by which a number grows if the state of that part grows by 1. So
+/// changing one state of a pair takes one multiplication.
 ///
 /// A shape is `Copy`, and no call takes memory. Numbers that are passed must be in range: pairs below
 /// [`pairs`](Shape::pairs), components below [`components`](Shape::components), and states below their
@@ -55,7 +55,7 @@ impl Model for Shape {
 
 impl Shape {
     /// Returns the shape of these sizes. Requires sizes of at least 1, and at most 32 components.
-    /// Returns `None` exactly where there are more than `cap` pairs. The product of the sizes can't
+    /// Returns `None` exactly when there are more than `cap` pairs. The product of the sizes can't
     /// overflow.
     #[tactic(auto, using(crate::proofs::Tables::new_rules))]
     pub fn new(target: u8, env: u8, sizes: &[u8], cap: u32) -> Option<Shape>
@@ -81,8 +81,8 @@ impl Shape {
         self.pairs
     }
 
-    /// Does nothing. Its contract states what holds of every shape: no size is 0, and the number of
-    /// pairs fits in 32 bits.
+    /// Does nothing. Its contract states that no size of a shape is 0, and that the number of pairs
+    /// fits in 32 bits.
     pub fn known(&self)
         ensures { IsSizes self.now }
     {
@@ -133,21 +133,21 @@ impl Shape {
         self.pairs / self.lanes
     }
 
-    /// Returns the target's stride: what one more state of the target adds to a pair's number.
+    /// Returns the target's stride: how much a pair's number grows if the target's state grows by 1.
     pub fn target_stride(&self) -> u32
         ensures { result ≡ target_stride_of self.now }
     {
         self.target_stride
     }
 
-    /// Returns the environment's stride: what one more state of it adds to a pair's number.
+    /// Returns the environment's stride: how much a pair's number grows if its state grows by 1.
     pub fn env_stride(&self) -> u32
         ensures { result ≡ env_stride_of self.now }
     {
         self.env_stride
     }
 
-    /// Returns the stride of component `k`: what one more state of it adds to a pair's number.
+    /// Returns the stride of component `k`: how much a pair's number grows if its state grows by 1.
     #[tactic(auto, using(crate::proofs::Shown::stride_is))]
     pub fn stride(&self, k: u8) -> u32
         requires { k < length self.now.seats }
@@ -267,9 +267,9 @@ impl Shape {
         (u32::from(t) * u32::from(self.env) + u32::from(e)) * self.env_stride() + states
     }
 
-    /// Returns the shape with one more component of the given size, at the end. Requires a size of at
-    /// least 1, and a shape with fewer than 32 components. Returns `None` exactly where there would
-    /// be more than `cap` pairs.
+    /// Returns the shape with one more component of the given size, at the end. Requires a size of
+    /// at least 1, and a shape with fewer than 32 components. Returns `None` exactly when there
+    /// would be more than `cap` pairs.
     #[tactic(auto, using(crate::proofs::Tables::Has, crate::proofs::Shown::Shows, crate::proofs::Tables::grow_rules))]
     pub fn grow(&self, size: u8, cap: u32) -> Option<Shape>
         requires size { 0 < size }

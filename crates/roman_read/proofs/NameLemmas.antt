@@ -16,12 +16,12 @@ zeros_after n h = drop-replicate n 32 0
 
 -- ---- in any list
 
--- where no element passes the test, the search ends at the end of the list
+-- if no element passes the test, the search ends at the end of the list
 position_or_len-none : {X : Type 0} (p : X → Bool) (xs : List X) → list_any p xs ≡ false → position_or_len p xs ≡ length xs
 position_or_len-none p [] h = refl
 position_or_len-none p (x ∷ xs) h = grind (arith, (position_or_len-none p xs))
 
--- where some element passes the test, the search ends within the list
+-- if some element passes the test, the search ends within the list
 position_or_len-some : {X : Type 0} (p : X → Bool) (xs : List X) → list_any p xs ≡ true → position_or_len p xs < length xs
 position_or_len-some p [] h = absurd (true≢false (sym h))
 position_or_len-some p (x ∷ xs) h = grind (arith, (position_or_len-some p xs))

@@ -10,7 +10,7 @@ use Rattle.roman_read.specs.Items.{◌>>=◌, each_item, pushing}
 pub same_ok : {X E : Type 0} (x y : X) → ◌≡◌ {A = Result X E} (Ok x) (Ok y) → x ≡ y
 same_ok x y h = cc
 
--- where a sequence of two readings succeeds, the first succeeds and the second continues from its value
+-- if a sequence of two readings succeeds, the first succeeds and the second continues from its value
 pub bind_ok : {X Y E : Type 0} (r : Result X E) (f : X → Result Y E) (y : Y) → (r >>= f) ≡ Ok y → (x : X) × (r ≡ Ok x) × (f x ≡ Ok y)
 bind_ok (Ok x) f y h = (x, refl, h)
 bind_ok (Err e) f y h = cc
@@ -39,7 +39,7 @@ module _ {S E : Type 0} (step : ℕ → S → Data → Result S E) (items : List
       → step i s (view x) ≡ Err why → IsLeft step items i s all → all ≡ Err why
   ends i s x why all h e bad left = sym left.same ∙ here i s x h e ∙ rw bad
 
-  -- the state is the result where no item remains
+  -- the state is the result when no item remains
   pub is_done : (i : ℕ) (s : S) (all : Result S E) → length items ≤ i → IsLeft step items i s all → all ≡ Ok s
   unfolding each_item
   is_done i s all h left = sym left.same ∙ rw (drop_all i items h)

@@ -47,7 +47,7 @@ number_of d = ok_or (option_and_then as_u64 (as_number d)) Form
 abbrev pub truth_of : Data → Result Bool Miss
 truth_of d = ok_or (as_bool d) Form
 
--- the code returns what the definition gives, seen through a view, and fails with the same miss
+-- the code returns the value that the definition gives, seen through a view, or fails with the same miss
 abbrev pub Finds : {X Y : Type 0} → (X → Y) → Result X Miss → Result Y Miss → Type 0
 Finds view (Ok x) looked = looked ≡ Ok (view x)
 Finds view (Err e) looked = looked ≡ Err e

@@ -1,9 +1,9 @@
 //! Names, and the members of JSON values in a system document.
 //!
-//! A [`Name`] is a short word that is kept in place. A [`NameTable`] numbers names in the order in
-//! which they were added. [`parse`] reads a text. [`member`], [`text`], [`list`], [`number`] and
-//! [`truth`] look into its value, and return the broken rule where they fail. [`Kind`] names all
-//! rules of a document. `specs/Names` defines names, and `specs/Json` the content of values.
+//! A [`Name`] is a short word that is stored in place. A [`NameTable`] numbers names in the order
+//! in which they were added. [`parse`] reads a text. [`member`], [`text`], [`list`], [`number`] and
+//! [`truth`] read its value, and return the broken rule if they fail. [`Kind`] names all rules of a
+//! document. `specs/Names` defines names, and `specs/Json` the content of values.
 #![tactic(auto)]
 
 mod looks;

@@ -1,4 +1,4 @@
-//! Names that are kept in place.
+//! Names that are stored in place.
 ghost use Rattle.std.specs.Prelude.{◌≡◌, ℕ, ◌-◌, ◌≤◌, ◌++◌, length, replicate, take, IsTrue};
 ghost use Rattle.std.specs.List.{list_all};
 ghost use Rattle.std.specs.Option.{SomeIff};
@@ -42,8 +42,8 @@ impl Model for Name {
 }
 
 impl Name {
-    /// Returns the name with these bytes, or `None` exactly where they break the rule of names. Takes
-    /// no memory.
+    /// Returns the name with these bytes, or `None` exactly when they break the rule of names.
+    /// Takes no memory.
     pub fn new(bytes: &[u8]) -> Option<Name>
         ensures name { SomeIff result (IsTrue (is_name bytes.now)) bytes.now }
     {

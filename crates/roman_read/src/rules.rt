@@ -17,7 +17,7 @@ pub enum Kind {
     BadName,
     /// A name occurs twice.
     Repeated,
-    /// A text is the name of no known item.
+    /// A text isn't the name of a known item.
     Unknown,
     /// There are too few or too many items, or a number is too small or too great.
     Count,

@@ -18,7 +18,7 @@ pub struct NameTable {
     names: IndexSet<Name>,
 }
 
-// One call. At each exit of a function that owns a table, a derived drop would be a step for each vector.
+// One step in proofs. A derived drop adds a step for each vector at each exit of an owner.
 impl Drop for NameTable {
     fn drop(self) {
         let NameTable { names: _ } = self;
@@ -37,7 +37,7 @@ impl Model for NameTable {
     ghost invariant = { λ t. (length t.names.keys < 2 ^ 32) × IsTrue (list_all is_name t.names.keys) };
 }
 
-/// Why a name wasn't added. The table stays as it was.
+/// Why a name wasn't added. The table is unchanged.
 #[derive(Clone, Copy, Debug, PartialEq, Eq, Error)]
 pub enum AddError {
     /// The table already has the name, at this place.
@@ -98,9 +98,9 @@ impl NameTable {
         self.names.is_empty()
     }
 
-    /// Adds a name at the end, and returns its place. Requires fewer than 2^32 - 1 names. Fails with
-    /// `Repeated` and the place of the name exactly where the table already has it, and with `Memory`
-    /// only when out of memory. The table then stays as it was.
+    /// Adds a name at the end, and returns its place. Requires fewer than 2^32 - 1 names. Fails
+    /// with `Repeated` and the place of the name exactly when the table already has it, and with
+    /// `Memory` only when out of memory. The table is then unchanged.
     #[tactic(auto, using(crate::proofs::NameLemmas::places))]
     pub fn add(&mut self, name: Name) -> Result<u32, AddError>
         requires { length self.old < 2 ^ 32 - 1 }
@@ -119,7 +119,7 @@ impl NameTable {
         Ok(place)
     }
 
-    /// Returns the place of the name with these bytes, or `None` exactly where no name has them.
+    /// Returns the place of the name with these bytes, or `None` exactly when no name has them.
     /// Accepts any bytes.
     pub fn find(&self, bytes: &[u8]) -> Option<u32>
         ensures place { result ≡ place_of self.now bytes.now }
@@ -155,7 +155,7 @@ impl NameTable {
         names.get_index_of(&name)
     }
 
-    /// Returns the name at place `i`, from 0.
+    /// Returns the name at place `i`, from 0. Requires `i` below the number of names.
     pub fn at(&self, i: u32) -> &Name
         requires { i < length self.now }
         ensures name { slice_get self.now i ≡ Some result.now }

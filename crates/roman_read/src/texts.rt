@@ -30,9 +30,9 @@ impl ParseError {
     }
 }
 
-/// Returns the JSON value (RFC 8259) of the bytes. Accepts at most 127 nested arrays and objects, and
-/// no number beyond the range of an `f64`. Where an object names a member twice, the last value
-/// counts. Fails with `NotJson` exactly where the bytes aren't UTF-8 or `serde_json` reads no value
+/// Returns the JSON value (RFC 8259) of the bytes. Accepts at most 127 nested arrays and objects,
+/// and no number beyond the range of an `f64`. If an object names a member twice, the last value
+/// counts. Fails with `NotJson` exactly when the bytes aren't UTF-8 or `serde_json` reads no value
 /// from them, and with `Memory` only when out of memory.
 #[tactic(auto, using(crate::proofs::ReadingLemmas::texts))]
 pub fn parse(alloc: Global, bytes: &[u8]) -> Result<Value, ParseError>

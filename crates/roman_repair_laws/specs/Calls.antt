@@ -1,4 +1,4 @@
--- What the calls of `roman_repair` keep: no list that could be kept is longer than the one that they keep.
+-- The calls of `roman_repair` keep the most entries: no list that can be kept is longer than the one that they keep.
 use Rattle.roman_model.specs.Change.{Change}
 use Rattle.roman_joint.specs.NamedSys.{NamedSys, system_of}
 use Rattle.roman_order.specs.Board.{Board}

@@ -1,12 +1,11 @@
-//! States a law for readers on the repairs of `roman_repair`: they keep as many entries as can be
-//! kept. Each call has its own function here, which makes the call and promises this of it. The law
-//! has a crate of its own, above `roman_repair`, because it rests on a law of `roman_laws`. No other
+//! States a law for readers on the repairs of `roman_repair`: they keep as many entries as
+//! possible. Each call has a function here that makes the call and promises this. The law has a
+//! crate of its own, above `roman_repair`, because it rests on a law of `roman_laws`. No other
 //! crate uses it.
 //!
-//! After each call the tally's `kept` is the greatest number of entries of the renamed old list that
-//! can be kept. No longer part of that list, in its order, is a removal list of the changed system.
-//! Each part of it that is a removal list of that system is part of the first `kept` entries of the
-//! new list.
+//! After each call the tally's `kept` is the greatest number of entries of the renamed old list
+//! that can be kept. Each part of that list, in its order, that is a removal list of the changed
+//! system has at most `kept` entries, and is part of the first `kept` entries of the new list.
 #![tactic(auto)]
 
 ghost use Rattle.std.specs.Prelude.{◌<◌, length, map, IfOk, IsFalse, IsTrue};
@@ -26,7 +25,7 @@ use roman_relation::Relation;
 use roman_repair::{JoinError, Tally, die, freeze, join, thaw};
 use std::sync::ledger::Ledger;
 
-/// Freezes a service by [`freeze`], which keeps the most entries.
+/// Freezes service `k` by [`freeze`], which keeps the most entries.
 pub fn freeze_keeps_the_most<L: Ledger>(
     relation: &mut Relation,
     k: u8,
@@ -41,7 +40,7 @@ pub fn freeze_keeps_the_most<L: Ledger>(
     freeze(relation, k, steps)
 }
 
-/// Thaws a service by [`thaw`], which keeps the most entries.
+/// Thaws service `k` by [`thaw`], which keeps the most entries.
 pub fn thaw_keeps_the_most<L: Ledger>(relation: &mut Relation, k: u8, steps: &mut Steps<L>) -> Tally
     requires relation { IsUpToDate relation.old }
     requires place { k < length relation.old.joint.seats }
@@ -75,7 +74,7 @@ pub fn join_keeps_the_most<L: Ledger>(
     Ok(tally)
 }
 
-/// Removes a service by [`die`], which keeps the most entries.
+/// Removes service `k` by [`die`], which keeps the most entries.
 pub fn die_keeps_the_most<L: Ledger>(relation: &mut Relation, k: u8, steps: &mut Steps<L>) -> Tally
     requires relation { IsUpToDate relation.old }
     requires seat { k < length relation.old.joint.seats }

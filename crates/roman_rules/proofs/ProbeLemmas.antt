@@ -1,8 +1,8 @@
--- Known answers of a row stay right, and counts of the numbers below a bound.
+-- Known answers of a row remain correct, and counts of the numbers below a bound.
 use Rattle.roman_rules.proofs.Common.{◌≡◌, ◌≢◌, ℕ, ◌+◌, ◌*◌, ◌%◌, ◌^◌, ◌<◌, bit_at, bit_or, w32, bit_at_set_same, bit_at_set_other, Bool, true, false, cond, [], ◌∷◌, count_by, IsTrue, IsFalse, refl, ◌∙◌, arith, cond-true, below, Arena, justified_more, unallowed_unjustified, on_zero, on_full, shr_and_one, bit_of, HoldsWhereKnown, readings_of, RowProbe}
 use Rattle.roman_rules.proofs.Serving.{sum_below_more}
 
--- known answers stay right after more pairs are gone
+-- known answers remain correct after more pairs are gone
 pub known_more : (A : Arena ℕ) (lanes : ℕ) (gone more : ℕ → Bool) (probe : RowProbe) → ((q : ℕ) → IsTrue (gone q) → IsTrue (more q)) → HoldsWhereKnown A lanes gone probe → HoldsWhereKnown A lanes more probe
 known_more A lanes gone more probe h known = grind (arith, justified_more)
 
@@ -27,5 +27,5 @@ pub readings_of-allowed : (A : Arena ℕ) (p a : ℕ) → IsTrue (A.allows p a) 
 unfolding readings_of
 readings_of-allowed A p a t = cond-true (A.allows p a) (count_by A.ready (below A.seats)) 0 t
 
--- what a row's seats answer, and what probing them costs
+-- the answers of a row's seats, and the cost of probing them
 pub ruleset probing = (bit_off, on_zero, on_full, shr_and_one, unallowed_unjustified)

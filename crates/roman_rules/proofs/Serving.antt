@@ -3,7 +3,7 @@ use Rattle.roman_rules.proofs.Common.{◌≡◌, ℕ, zero, suc, ◌+◌, ◌-�
 
 -- ---- an action that isn't allowed
 
--- where an action isn't allowed, each seat is beaten
+-- if an action isn't allowed, each seat is beaten
 pub refused_beaten : (A : Arena ℕ) → IsNumbered A → (gone : ℕ → Bool) (p a k : ℕ) → IsFalse (A.allows p a) → IsTrue (is_beaten A gone p a k)
 refused_beaten A ok gone p a k refused =
     by_test (is_empty (A.outcomes p a k)) (λ t. beaten_none A gone p a k (empty_is (A.outcomes p a k) t))
@@ -11,15 +11,15 @@ refused_beaten A ok gone p a k refused =
 
 -- ---- the bits of a mask
 
--- where bits hold a test, a seat is in their set exactly if it passes the test
+-- a seat is in the set of the bits exactly when it passes their test
 pub has_seat_is : (bits : ℕ) (test : ℕ → Bool) (k : ℕ) → HasBits bits test → k < 32 → has_seat bits k ≡ test k
 has_seat_is bits test k is l = grind arith
 
--- a seat is in the mask where it isn't beaten
+-- a seat is in the mask exactly when it isn't beaten
 pub has_good : (A : Arena ℕ) → IsNumbered A → (gone : ℕ → Bool) (p a k : ℕ) → k < A.seats → has (mask A gone p a) k ≡ not (is_beaten A gone p a k)
 has_good A ok gone p a k l = grind (arith, by_test, mask_has, not_from_true, refused_beaten)
 
--- where an action isn't allowed, the mask has no bits
+-- if an action isn't allowed, the mask has no bits
 pub mask_refused : (A : Arena ℕ) (gone : ℕ → Bool) (p a : ℕ) → IsFalse (A.allows p a) → HasBits 0 (has (mask A gone p a))
 mask_refused A gone p a refused = record { each = λ k l. bit_at-zero k ∙ sym (ap (λ ks. bit_of (has ks k)) (mask_none A gone p a refused)) }
 
@@ -30,7 +30,7 @@ pub mask_more : (A : Arena ℕ) (gone : ℕ → Bool) (p a k old new : ℕ) (goo
     (j : ℕ) → j < k + 1 → bit_at new j ≡ bit_of (has (mask A gone p a) j)
 mask_more A gone p a k old new good is own others before none j m = grind (arith, cases_eq)
 
--- where the seats from n on are beaten and the bits are right below n, they are the whole mask
+-- if the seats from n on are beaten and the bits are correct below n, the bits are the whole mask
 pub mask_all : (A : Arena ℕ) → IsNumbered A → (gone : ℕ → Bool) (p a n bits : ℕ) → ((k : ℕ) → n ≤ k → k < A.seats → IsTrue (is_beaten A gone p a k)) →
     ((j : ℕ) → j < n → bit_at bits j ≡ bit_of (has (mask A gone p a) j)) → ((j : ℕ) → n ≤ j → bit_at bits j ≡ 0) → HasBits bits (has (mask A gone p a))
 mask_all A ok gone p a n bits beaten read rest = grind (arith, cases_lt, has_good, mask_has_past)
@@ -92,7 +92,7 @@ pub action_counted : (A : Arena ℕ) → IsNumbered A → (gone : ℕ → Bool) 
     sum_by (served_by A gone lanes row a) (below A.seats) ≡ sum_by (λ lane. length (mask A gone (row * lanes + lane) a)) (below lanes)
 action_counted A ok gone lanes row a = simp (mask_counted A ok gone) (sum_turned (λ k lane. cond (not (is_beaten A gone (row * lanes + lane) a k)) 1 0) A.seats lanes)
 
--- where an action is allowed at no pair of a row, its masks there are empty
+-- if an action is allowed at no pair of a row, its masks there are empty
 pub none_chosen : (A : Arena ℕ) (gone : ℕ → Bool) (lanes row a : ℕ) → ((lane : ℕ) → lane < lanes → IsFalse (A.allows (row * lanes + lane) a)) →
     0 ≡ sum_by (λ lane. length (mask A gone (row * lanes + lane) a)) (below lanes)
 none_chosen A gone lanes row a none =

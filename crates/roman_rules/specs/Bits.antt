@@ -6,7 +6,7 @@ use Rattle.std.specs.Int.{bit_at}
 abbrev pub bit_of : Bool → ℕ
 bit_of b = if b then 1 else 0
 
--- bit k is set exactly where k passes the test, for each k below 32
+-- bit k is set exactly when k passes the test, for each k below 32
 pub record HasBits (bits : ℕ) (test : ℕ → Bool) : Type 0 where
   pub each : (k : ℕ) → k < 32 → bit_at bits k ≡ bit_of (test k)
 

@@ -6,7 +6,7 @@ use Rattle.roman_model.specs.Numbers.{Sizes, pair_at}
 use Rattle.roman_rules.specs.declared.finding.Finding.{Finding}
 use Rattle.roman_rules.specs.declared.finding.Finding.TheVariants.{Good, NoOutcome, Leaves}
 
--- the finding is right for the outcomes qs of a delegation to seat k, where gone pairs pass the test
+-- the finding is correct for the outcomes qs of a delegation to seat k, if the gone pairs are those that pass the test
 abbrev pub IsFinding : Sizes → ℕ → (ℕ → Bool) → List ℕ → Finding → Type 0
 IsFinding n k gone qs Good = IsFalse (is_empty qs) × (find gone qs ≡ None)
 IsFinding n k gone qs NoOutcome = qs ≡ []

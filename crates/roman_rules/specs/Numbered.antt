@@ -4,7 +4,7 @@ use Rattle.roman_model.specs.Lists.{IsIn, below}
 use Rattle.roman_model.specs.Arena.{Arena}
 
 -- the nodes are the numbers below a bound, all counts are within their limits, each outcome is a node,
--- and a delegation has outcomes only where the action is allowed and the seat is ready
+-- and a delegation has outcomes only if the action is allowed and the seat is ready
 pub record IsNumbered (A : Arena ℕ) : Type 0 where
   pub same : (p q : ℕ) → A.same p q ≡ (p == q)
   pub nodes : A.nodes ≡ below (length A.nodes)

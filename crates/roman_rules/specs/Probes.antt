@@ -11,12 +11,12 @@ use Rattle.roman_rules.specs.declared.probe.RowProbe.{RowProbe}
 pub record HoldsWhereKnown (A : Arena ℕ) (lanes : ℕ) (gone : ℕ → Bool) (probe : RowProbe) : Type 0 where
   pub each : (lane : ℕ) → lane < lanes → is_on probe.lanes lane ≡ true → IsTrue (is_justified A gone (probe.row * lanes + lane) probe.reason)
 
--- the action of the reason, where it names one, is one of the system
+-- the action of the reason, if it names one, is one of the system
 abbrev pub IsReasonOf : Arena ℕ → Reason → Type 0
 IsReasonOf A Final = Unit {0}
 IsReasonOf A (Act a) = a < A.actions
 
--- the number of seats that are probed for an action at a pair: the ready ones, where it is allowed
+-- the number of seats that are probed for an action at a pair: the ready ones if it is allowed
 unfoldable pub readings_of : Arena ℕ → ℕ → ℕ → ℕ
 readings_of A p a = if A.allows p a then count_by A.ready (below A.seats) else 0
 

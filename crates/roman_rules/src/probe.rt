@@ -12,10 +12,10 @@ use std::sync::ledger::Ledger;
 
 /// A row that was probed for a reason, and its pairs at which the reason is known to hold.
 ///
-/// Neighbouring entries of a list mostly lie in one row and have one reason. The row is probed once,
-/// and the answer serves all of them. A reason that holds still holds after more pairs are gone, so a
-/// known answer stays right while the list grows. A pair at which the reason didn't hold is probed
-/// again.
+/// Neighbouring entries of a list mostly lie in one row and have one reason. The row is probed
+/// once, and the answer serves all of them. A reason that holds still holds after more pairs are
+/// gone, so a known answer remains correct while the list grows. A pair at which the reason didn't
+/// hold is probed again.
 #[derive(Clone, Copy, Debug)]
 pub struct RowProbe {
     /// The number of the row that was probed.
@@ -37,8 +37,8 @@ pub fn tick_ready<J: Rules, L: Ledger>(joint: &J, steps: &mut Steps<L>)
     }
 }
 
-/// Returns the pairs of a row at which the action `a` is allowed and no seat serves it. Counts a step
-/// for each ready seat where the action is allowed, and otherwise none.
+/// Returns the pairs of a row at which the action `a` is allowed and no seat serves it. Counts a
+/// step for each ready seat if the action is allowed, and otherwise none.
 #[tactic(auto, using(crate::proofs::ProbeLemmas::probing), unfolding(crate::specs::Probes::readings_of))]
 fn probe_seats<J: Rules, L: Ledger>(
     joint: &J,
@@ -67,7 +67,7 @@ fn probe_seats<J: Rules, L: Ledger>(
 }
 
 impl RowProbe {
-    /// Returns a `RowProbe` for which nothing is known.
+    /// Returns a `RowProbe` with no known lanes.
     #[tactic(auto, using(std::proofs::lemmas::Bool::both_ways, roman_lanes::proofs::CallerLemmas::on_zero))]
     pub fn nothing() -> RowProbe
         ensures { (A : Arena ℕ) (lanes : ℕ) (gone : ℕ → Bool) → HoldsWhereKnown A lanes gone result }
@@ -79,7 +79,7 @@ impl RowProbe {
         }
     }
 
-    /// Returns the lanes of the row `x` at which the reason is known to hold. Returns no lane where
+    /// Returns the lanes of the row `x` at which the reason is known to hold. Returns no lane if
     /// the last probe was for another row or another reason.
     #[tactic(auto, using(std::proofs::lemmas::Bool::both_ways, roman_lanes::proofs::CallerLemmas::on_zero))]
     pub fn known_at(&self, x: u32, reason: Reason) -> u64
@@ -97,7 +97,7 @@ impl RowProbe {
     /// `words` has, row by row, the bits of the pairs that aren't gone. Requires that the reason's
     /// action, if any, is an action of the system.
     ///
-    /// Counts a step for each ready seat where the reason is an action that is allowed in the row, and
+    /// Counts a step for each ready seat if the reason is an action that is allowed in the row, and
     /// otherwise none.
     pub fn probe_row<J: Rules, L: Ledger>(
         &mut self,

@@ -25,14 +25,14 @@ use std::sync::ledger::Ledger;
 /// for the pair at lane l. Rows lie in [`bands`](Rules::bands) of [`band`](Rules::band) neighbours
 /// each. A band is looked up by its first row. No call takes memory.
 ///
-/// A pair is gone where an algorithm has removed it. Calls take the pairs that aren't gone as `words`,
-/// one word for each row. A seat serves an action at a pair where the delegation has an outcome, and
-/// none that is gone.
+/// A pair is gone if an algorithm has removed it. Calls take the pairs that aren't gone as `words`,
+/// one word for each row. A seat serves an action at a pair if the delegation has an outcome there,
+/// and no outcome that is gone.
 pub trait Rules {
-    /// The system, as removal lists and masks see it.
+    /// The system as an arena, on which removal lists and masks are defined.
     ghost arena: { Self → Arena ℕ };
 
-    /// The facts of a row that are looked up once: plain data.
+    /// The facts about a row that are looked up once, as plain data.
     type Row: Drop;
 
     /// The number of pairs in a row.
@@ -54,7 +54,7 @@ pub trait Rules {
     /// The sizes by which the pairs are numbered.
     ghost sizes: { Self → Sizes };
 
-    /// Does nothing. Its contract states what holds of every system.
+    /// Does nothing. Its contract states the limits on the numbers of every system.
     fn known(&self)
         ensures numbered { IsNumbered (arena self.now) }
         ensures lanes { (0 < lanes self.now) × (lanes self.now ≤ 64) }
@@ -108,9 +108,9 @@ pub trait Rules {
         requires { y * band self.now * lanes self.now < length (arena self.now).nodes }
         ensures { is_row self.now (y * band self.now) result };
 
-    /// Returns the actions that the target allows at the pairs of a row: bit a is set exactly where it
-    /// allows a. They are the same at all pairs of a row, and at all pairs of a band if the row is its
-    /// first.
+    /// Returns the actions that the target allows at the pairs of a row: bit a is set exactly when
+    /// it allows a. They are the same at all pairs of a row, and at all pairs of a band if the row
+    /// is its first.
     fn row_actions(&self, row: &Self::Row) -> u32
         ensures row { (x lane : ℕ) → is_row self.now x row.now → lane < lanes self.now →
             HasBits result ((arena self.now).allows (x * lanes self.now + lane)) }
@@ -130,8 +130,8 @@ pub trait Rules {
     fn resting(&self) -> u64
         ensures { is_resting self.now result };
 
-    /// Clears, in `left`, the pairs of a band that meet clause 2 of an ND-simulation. `resting` is what
-    /// [`resting`](Rules::resting) returns. `left` has one word for each row of the band.
+    /// Clears, in `left`, the pairs of a band that meet clause 2 of an ND-simulation. `resting` is
+    /// the result of [`resting`](Rules::resting). `left` has one word for each row of the band.
     fn unfine_band(&self, row: &Self::Row, resting: u64, left: &mut [u64])
         requires row { (y : ℕ) × is_row self.now (y * band self.now) row.now }
         requires resting { is_resting self.now resting }
@@ -167,9 +167,9 @@ pub trait Rules {
             (below (lanes self.now))) (below (band self.now)) }
         ensures few { result ≤ 131072 };
 
-    /// Returns the pairs of a row at which seat `k` serves the action `a`: the seat is ready, and has an
-    /// outcome there and none that is gone. No bit is set past the lanes, or where the target doesn't
-    /// allow the action.
+    /// Returns the pairs of a row at which seat `k` serves the action `a`: the seat is ready, and
+    /// has an outcome there, and no outcome that is gone. No bit is set past the lanes, or if the
+    /// target doesn't allow the action.
     fn good(&self, row: &Self::Row, words: &[u64], a: u8, k: u8) -> u64
         requires row { (x : ℕ) × is_row self.now x row.now }
         requires action { a < (arena self.now).actions }

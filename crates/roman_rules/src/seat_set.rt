@@ -16,7 +16,7 @@ pub fn with_bit(bits: u32, k: u8, is_in: bool) -> u32
 }
 
 /// A set of seats, each below 32. It is `Copy`. Contracts see the word whose bit `k` is 1 exactly
-/// where seat `k` is in the set.
+/// when seat `k` is in the set.
 #[derive(Clone, Copy, Debug, PartialEq, Eq)]
 pub struct SeatSet {
     bits: u32,

@@ -16,8 +16,8 @@ pub fn copy_rows(words: &[u64], x: u32, to: &mut [u64])
     }
 }
 
-/// Returns whether all words are 0. Reads the first word by itself: where some word isn't 0, the first
-/// mostly isn't either. Then joins all words.
+/// Returns whether all words are 0. Tests the first word on its own, because it is mostly nonzero
+/// if any word is. Then joins all words.
 #[tactic(auto, using(std::proofs::lemmas::Bool::cases_eq, std::proofs::lemmas::Nat::le_or_l, std::proofs::lemmas::Nat::le_or_r))]
 pub fn are_clear(words: &[u64]) -> bool
     ensures { result ≡ true → (i : ℕ) → i < length words.now → slice_index words.now i ≡ 0 }

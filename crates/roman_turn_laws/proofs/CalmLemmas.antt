@@ -2,7 +2,7 @@
 use Rattle.roman_turn_laws.proofs.Common.{◌≡◌, ℕ, List, [], ◌∷◌, ◌++◌, IsFalse, refl, sym, ◌∙◌, subst, arith, ◌⊎◌, inl, inr, Result, Ok, Err, length-map, slice_get_within, LineShape, nothing, request, delegate, observe, abort, freeze, thaw, die, join, jump, jump_env, report, explain, quit, LineError, great_meets, IsIn, seat_of, system_of, PlainLibrary, both_ways, bytes_eq-Decides, bytes_eq, Replies, State, IsState, IsGreat, TurnsInto, Refuses, Needs, Turn, AreTurns, after_turns, IsChange, IsCalm, IsServed, StaysServed, CalmStretchesStay, needs_elim, unless_elim}
 use Rattle.roman_text.specs.declared.replies.Reply.TheVariants as reply
 
--- what is refused or leads to a state with the same parts and pair leaves the pair related
+-- an event that is refused, or leads to a state with the same parts and pair, keeps the pair related
 module _ (library : PlainLibrary) (s new : State) (text : List ℕ) (is : IsState library s) (great : IsGreat s) where
   stays : new ≡ s → IsGreat new
   stays same = subst IsGreat (sym same) great
@@ -57,7 +57,7 @@ request_composed s new text action great turn says =
     lost_out (inl (h, t)) go = go h t
     lost_out (inr (none, r)) go = none great
 
--- what holds at a related pair
+-- a state with a related pair is served
 great_served : (s : State) → IsGreat s → IsServed s
 great_served s great =
     let meets = great_meets (system_of s.parts) _ great in

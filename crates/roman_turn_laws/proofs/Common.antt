@@ -1,4 +1,4 @@
--- What the proof pages of this crate cite from elsewhere, passed on from one place. Declares nothing.
+-- Re-exports the names that the proof pages of this crate use from other crates. Declares nothing.
 pub use Rattle.std.proofs.Common.{Bool, Err, IfSome, IsFalse, IsTrue, List, None, Ok, Option, Result, Some, [], ap, arith, codes, false, filter, flat_map, if◌then◌else◌, inl, inr, length, map, nat_lt, not, refl, remove, slice_get, slice_index_or, slice_set, subst, suc, sym, true, zero, ℕ, ◌&&◌, ◌++◌, ◌<◌, ◌||◌, ◌↔◌, ◌∙◌, ◌∷◌, ◌≡◌, ◌≤◌, ◌⊎◌}
 pub use Rattle.std.proofs.lemmas.Bool.{both_ways, cond-true, le-ltb}
 pub use Rattle.std.proofs.lemmas.List.{length-map, map_push}

@@ -1,10 +1,10 @@
--- A turn fixes its new state and its text, but for the split of a count and the entries of an explanation.
+-- A turn fixes its new state and its text, except for the split of a count and the entries of an explanation.
 use Rattle.roman_turn_laws.proofs.Common.{◌≡◌, ℕ, zero, suc, ◌≤◌, Bool, true, false, not, List, [], ◌∷◌, ◌++◌, map, length, Some, slice_get, slice_index_or, slice_set, remove, refl, sym, ap, ◌∙◌, subst, arith, codes, ◌⊎◌, inl, inr, IsTrue, Result, Ok, Err, AllZip, starts_with, nat_eq, strip_carriage_return, cond-true, none-some, same_Some, words_of, spelling, shape_of_words, by_words, LineShape, nothing, request, delegate, observe, abort, freeze, thaw, die, join, jump, jump_env, report, explain, quit, reply_text, LineError, HasNoRepeats-below, get_in, IsIn, HasNoRepeats, below, Sys, SStep, has_move, IsDeterministic, name_at, seat_names, NamedBeh, NamedSys, system_of, cells, with_frozen, seat_name, beh_name, names_in, names_of_seat, states_of_behaviour, Seat, Phase, Idle, Offered, Delegated, count_fixed, sublists_same, ReportsAreFixed, PlainLibrary, Reads, IsComment, State, IsState, MayRequest, ServesHere, Turn, AreTurns, TurnsInto, Needs, Unless, Place, with_services, OffersServing, CountsLost, IsReady, AcceptedNamesAreClear, HasClearNames, state_at, IsSameTurn, CountTheSame, SayAlike, TurnsAreFixed, IsFixedTurn, SessionsAreFixed, IsLikeTurn, ResumedSayAlike}
 use Rattle.std.specs.List.{flat_map}
 use Rattle.roman_text.specs.declared.replies.Reply.TheVariants as reply
 use Rattle.roman_turn_laws.proofs.ResumedLemmas.{sessions_resume}
 
--- no name stands for two actions, states or behaviours of the parts, and the target is deterministic
+-- no name is used for two actions, states or behaviours of the parts, and the target is deterministic
 record AreDistinct (parts : NamedSys) : Type 0 where
   actions : HasNoRepeats parts.environment.actions
   environment : HasNoRepeats parts.environment.states
@@ -101,11 +101,11 @@ module _ (fixed : ReportsAreFixed) (s new also : State) (text other : List ℕ) 
   refusals : (refusal : List ℕ) → ((text ≡ refusal) × (new ≡ s)) → ((other ≡ refusal) × (also ≡ s)) → Same
   refusals refusal (says, stays) (says', stays') = (stays ∙ sym stays', inl (says ∙ sym says'))
 
-  -- both lead to the same state, with equal texts
+  -- both turns lead to the same state, with equal texts
   equally : (next next' : State) → next ≡ next' → new ≡ next → also ≡ next' → text ≡ other → Same
   equally next next' same e e' says = (e ∙ same ∙ sym e', inl says)
 
-  -- both lead to the same changed services
+  -- both turns lead to the same changed services
   countedly : (next next' : State) → next ≡ next' → (CountsLost next text × (new ≡ next)) → (CountsLost next' other × (also ≡ next')) → Same
   countedly next next' same (counts, e) (counts', e') = (e ∙ same ∙ sym e', inr (inl (counts_fixed next text other counts (subst (λ (x : State). CountsLost x other) (sym same) counts'))))
 
@@ -217,7 +217,7 @@ turns_fixed fixed accepted texts document library s new also event text other h 
 abbrev SameEvent : Result LineShape LineError → Result LineShape LineError → Type 0
 SameEvent one two = (one ≡ two) ⊎ ((why : LineError) × (why' : LineError) × (one ≡ Err why) × (two ≡ Err why'))
 
--- an event other than none is spelled by the words
+-- the line has the words of its event, unless the event is `nothing`
 event_words : (line : List ℕ) (event : LineShape) → Reads line (Ok event) → (event ≡ nothing) ⊎ ((length line ≤ 256) × (words_of (strip_carriage_return line) ≡ spelling event))
 event_words line nothing r = inl refl
 event_words line _ r = inr r

@@ -4,7 +4,7 @@ use Rattle.roman_model.specs.System as model
 use Rattle.roman_text.specs.declared.replies.Reply.TheVariants as reply
 use Rattle.roman_turn_laws.proofs.SoundLemmas.{reached_sound}
 
--- a seat that is made ready, and then frozen as it was
+-- a frozen seat that is made ready and then frozen again is as before
 thawed_back : (seats : List model.Seat) (k : ℕ) → ((seat : model.Seat) → slice_get seats k ≡ Some seat → IsTrue seat.frozen) → set_frozen (set_frozen seats k false) k true ≡ seats
 thawed_back [] k frozen = refl
 thawed_back (seat ∷ seats) zero frozen = ap (λ (f : Bool). let x : model.Seat = record { beh = seat.beh; frozen = f; rests = seat.rests } in x ∷ seats) (sym (frozen seat refl))

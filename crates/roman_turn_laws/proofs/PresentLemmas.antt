@@ -2,7 +2,7 @@
 use Rattle.roman_turn_laws.proofs.Common.{IfSome, IsTrue, List, Option, [], ap, arith, length, map, refl, subst, sym, ℕ, ◌<◌, ◌∷◌, ◌≡◌, ◌≤◌, length-map, All-from_recursion, recursion_from_All, AllByRecursion, AllZip, AcceptedCanBeSaid, AcceptedNamesAreClear, IsSayable, LibrariesAreSaid, afresh, services_in, IsState, State, beh_read, IsNamedSys, NamedSys, beh_at, cells, seat_of, system_of, seat_name, Seat, IsLibrary, IsService, PlainLibrary, service_name, in_map, there_is, HasNoRepeats, IsIn, Beh, Env, IsBeh, IsEnv, IsPair, Pair, IsOver, NamedBeh, is_name, Phase, parts_of, IsSaidAfresh, PresentIsSaid, services_again}
 use Rattle.roman_turn_laws.proofs.SoundLemmas.{IsSound, reached_sound}
 
--- other starting states
+-- Parts with other starting states
 
 pub env_starts : (env : Env) (e : ℕ) → IsEnv env → e < env.states → IsEnv (record env { start = e })
 env_starts env e is less = record { states = is.states; actions = is.actions; start = less; triples = is.triples }
@@ -13,7 +13,7 @@ beh_starts env beh t e is less = record { states = is.states; start = less; fina
 pub over_starts : (env_states actions : ℕ) (beh : Beh) (t : ℕ) → IsOver env_states actions beh → t < beh.states → IsOver env_states actions (record beh { start = t })
 over_starts env_states actions beh t over less env states same = beh_starts env beh t 0 (over env states same) less
 
--- the services of the present
+-- The present services
 
 service_there : (catalogue : List NamedBeh) (seat : Seat) (b : ℕ) → seat.behaviour < length catalogue → b < (beh_at catalogue seat.behaviour).states →
     IsService catalogue (record { name = seat.name; behaviour = seat.behaviour; state = b; frozen = seat.frozen; rests = seat.rests })
@@ -38,7 +38,7 @@ few_present [] bs = omega arith
 few_present (seat ∷ seats) [] = omega arith
 few_present (seat ∷ seats) (b ∷ bs) = omega (arith, few_present seats bs)
 
--- the library that begins in the state, where its parts are those of a library but for the services
+-- the library that begins in the state, if its parts are those of a library except for the services
 module _ (library : PlainLibrary) (can : IsSayable library) (seats : List Seat) (here : Pair) (phase : Phase) where
   abbrev at : State
   at = record { parts = record (parts_of library) { seats = seats }; here = here; phase = phase }

@@ -1,4 +1,4 @@
--- Sessions go on in a document that begins in the present states.
+-- Sessions continue in a document that begins in the present states.
 use Rattle.roman_turn_laws.proofs.Common.{◌≡◌, ℕ, List, [], ◌∷◌, map, refl, sym, ap, ◌∙◌, subst, inl, inr, Result, Ok, Err, LineShape, nothing, request, delegate, observe, abort, freeze, thaw, die, join, jump, jump_env, report, explain, quit, LineError, Reply, AllZip, NamedSys, system_of, Seat, PlainLibrary, parts_of, state_of_service, Phase, Idle, services_again, OffersServing, Turn, AreTurns, State, start_state, IsState, afresh, services_in, ComesTo, TurnsInto, Refuses, Needs, Unless, state_at, starting_at, IsSameTurn, TurnsAreAlike, SessionsResume, TakesUp, OpenIsTakenUp}
 use Rattle.roman_turn_laws.proofs.StartLemmas.{pair_at, step_at, step_back, great_at, great_back, here_at, here_back, offers_at, lost_count_at, reports_at, refutes_at}
 
@@ -6,7 +6,7 @@ needs_at : (H H' R R' : Type 0) (T : H → Type 0) (T' : H' → Type 0) (to : H 
 needs_at H H' R R' T T' to from refused go (inl (h, t)) = inl (to h, go h t)
 needs_at H H' R R' T T' to from refused go (inr (none, r)) = inr (λ h. none (from h), refused r)
 
--- the same condition
+-- a turn with the same condition
 needs_on : (H R R' : Type 0) (T T' : H → Type 0) → (R → R') → ((h : H) → T h → T' h) → Needs H R T → Needs H R' T'
 needs_on H R R' T T' refused go n = needs_at H H R R' T T' (λ h. h) (λ h. h) refused go n
 
@@ -81,9 +81,9 @@ turns_alike one other new event text alike turn =
     let t0 = other.parts.target.beh.start in
     (state_at e0 t0 new, refl, subst (λ (x : State). TurnsInto x event text (state_at e0 t0 new)) (ap (state_at e0 t0) alike) (turn_at e0 t0 one new event text turn))
 
--- Libraries that differ in where their parts start.
+-- Libraries that differ in the starting states of their parts.
 
--- the parts of the other library are those of the one, with these starts, whichever services there are
+-- the parts of the other library are those of the one, with these starting states, whichever services are present
 abbrev IsBegun : ℕ → ℕ → PlainLibrary → PlainLibrary → Type 0
 IsBegun e0 t0 one other = (seats : List Seat) → record (parts_of other) { seats = seats } ≡ starting_at e0 t0 (record (parts_of one) { seats = seats })
 
@@ -126,7 +126,7 @@ same_before e0 t0 (y ∷ ys) = (record { before = refl; line = refl; event = ref
 
 -- The library that begins in a state.
 
--- it starts in that state
+-- the library starts in that state
 afresh_starts : (library : PlainLibrary) (s : State) → IsState library s → s.phase ≡ Idle → start_state (afresh s) ≡ state_at s.here.e s.here.t s
 afresh_starts library s is idle =
     let (seats, states) = services_again s.parts.catalogue s.parts.seats s.here.bs is.here.bs in
@@ -140,7 +140,7 @@ afresh_begun library s is seats = ap (λ (n : NamedSys). starting_at s.here.e s.
 library_begun : (library : PlainLibrary) (s : State) → IsState library s → IsBegun library.environment.env.start library.target.beh.start (afresh s) library
 library_begun library s is seats = sym (ap (λ (n : NamedSys). starting_at library.environment.env.start library.target.beh.start (record n { seats = seats })) is.parts)
 
--- with the library's starts it is the state again
+-- with the library's starting states the result is the state again
 starts_again : (library : PlainLibrary) (s : State) → IsState library s → state_at library.environment.env.start library.target.beh.start s ≡ s
 starts_again library s is = ap (λ (n : NamedSys). let S : State = record { parts = n; here = s.here; phase = s.phase } in S) (ap (starting_at library.environment.env.start library.target.beh.start) is.parts ∙ sym is.parts)
 

@@ -1,4 +1,4 @@
--- Nothing that a turn says depends on where the environment and the target start.
+-- The texts and the new states of turns don't depend on the starting states of the environment and the target.
 use Rattle.roman_turn_laws.proofs.Common.{ℕ, zero, suc, List, [], ◌∷◌, Option, None, Some, ◌↔◌, Sys, Pair, IsPair, SStep, Couple, Serves, Meets, GreatCouple, Counts, Entry, Reason, Final, Act, system_of, State, ServesHere, AreServing, OffersServing, CountsLost, ReportsGreat, Refutes, MayAnswer, IsLost, AreLost, WinsBy, state_at}
 
 -- the system, with other starting states

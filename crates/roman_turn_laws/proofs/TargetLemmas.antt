@@ -30,7 +30,7 @@ many_stay [] ts same = refl
 many_stay (x ∷ xs) [] same = let f : ⊥ = cc in absurd f
 many_stay (x ∷ xs) (t ∷ ts) same = ap suc (many_stay xs ts (one_less (length ts) (length xs) same))
 
--- the target at a place uses the same actions, and goes the same way
+-- the target at a place uses the same actions, and has the same next states
 stands_stay : (xs : List Named) (ts : List ℕ) → length ts ≡ length xs → (i : ℕ) → stands_in (slice_get (machines (targets_at xs ts)) i) ≡ stands_in (slice_get (machines xs) i)
 stands_stay [] ts same i = refl
 stands_stay (x ∷ xs) [] same i = let f : ⊥ = cc in absurd f
@@ -129,7 +129,7 @@ begun t e made = record {
   target = record made.target { beh = record made.target.beh { start = t } };
 }
 
--- a combination in other starting states is the combination, but for where it starts
+-- a combination in other starting states is the combination, except for its starting states
 combined_stays : (env : NamedEnv) (catalogue : List NamedBeh) (xs : List Named) (ts : List ℕ) → length ts ≡ length xs → (t e : ℕ) → states_number (target_sizes (machines xs)) ts ≡ t →
     combined_parts (record env { env = record env.env { start = e } }) catalogue (targets_at xs ts) ≡ begun t e (combined_parts env catalogue xs)
 unfolding combined_parts
@@ -169,7 +169,7 @@ targets_can_at env e (x ∷ xs) (t ∷ ts) zip can y (inl same) =
     )
 targets_can_at env e (x ∷ xs) (t ∷ ts) zip can y (inr i) = targets_can_at env e xs ts zip.1 (λ z j. can z (inr j)) y i
 
--- what the library of a document with several targets has of its parts
+-- the parts of the library of a document with several targets
 record IsMadeOf (said : PlainTargets) (library : PlainLibrary) : Type 0 where
   env_states : library.environment.env.states ≡ said.environment.env.states
   target_states : library.target.beh.states ≡ product_of (target_sizes (machines said.targets))

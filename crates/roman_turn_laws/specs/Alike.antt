@@ -1,4 +1,4 @@
--- States that differ at most in where the environment and the target of their parts start.
+-- States that differ at most in the starting states of the environment and the target of their parts.
 use Rattle.std.specs.Prelude.{◌≡◌, ℕ}
 use Rattle.roman_joint.specs.NamedSys.{NamedSys}
 use Rattle.roman_session.specs.States.{State}
@@ -17,6 +17,6 @@ starting_at e t parts = record {
 abbrev pub state_at : ℕ → ℕ → State → State
 state_at e t s = record { parts = starting_at e t s.parts; here = s.here; phase = s.phase }
 
--- the states are equal, but for the starting states of their parts
+-- the states are equal, except for the starting states of their parts
 abbrev pub DifferInStarts : State → State → Type 0
 DifferInStarts one other = state_at 0 0 one ≡ state_at 0 0 other

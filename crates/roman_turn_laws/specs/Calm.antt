@@ -21,7 +21,7 @@ IsChange (Ok (jump service state)) = Unit {0}
 IsChange (Ok (jump_env env)) = Unit {0}
 IsChange _ = ⊥
 
--- the event of the turn is no change, or the change was refused
+-- the event of the turn isn't a change, or the change was refused
 abbrev pub IsCalm : Turn → Type 0
 IsCalm x = IsChange x.event → x.after ≡ x.before
 
@@ -37,7 +37,7 @@ pub record StaysServed (x : Turn) : Type 0 where
   pub after : IsServed x.after
   pub composed : (action : List ℕ) → x.event ≡ Ok (request action) → Replies reply.NoComposition x.text → ⊥
 
--- if the pair is related where a stretch of calm turns begins, after any turns, it is related before and after each turn of the stretch
+-- if the pair is related when a stretch of calm turns begins, after any turns, it is related before and after each turn of the stretch
 abbrev pub CalmStretchesStay : Type 0
 CalmStretchesStay =
     (library : PlainLibrary) (s : State) (lines : List (List ℕ)) (front stretch rest : List Turn) →

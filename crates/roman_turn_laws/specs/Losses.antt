@@ -14,13 +14,13 @@ use Rattle.roman_turn_laws.specs.Present.{IsReached}
 abbrev pub MayGo : State → List ℕ → Type 0
 MayGo s service = (k : ℕ) → slice_get (map seat_name s.parts.seats) k ≡ Some service → MayGoAt (system_of s.parts) s.here k
 
--- a pair that is related after a freeze was related before it; so was one that is related after a death, if the service that died was loose or
--- in a final state; a pair that is related before a thaw is related after it
+-- A pair that is related after a freeze was related before it. So was a pair that is related after a death, if the service that died was loose
+-- or in a final state. A pair that is related before a thaw is related after it.
 pub record LossesNeverHelp (s : State) : Type 0 where
   pub frozen : (service text : List ℕ) (new : State) → TurnsInto s (Ok (freeze service)) text new → IsGreat new → IsGreat s
   pub died : (service text : List ℕ) (new : State) → TurnsInto s (Ok (die service)) text new → MayGo s service → IsGreat new → IsGreat s
   pub thawed : (service text : List ℕ) (new : State) → TurnsInto s (Ok (thaw service)) text new → IsGreat s → IsGreat new
 
--- this holds in each state that a session of an accepted document reaches
+-- the loss of services never helps, in each state that a session of an accepted document reaches
 abbrev pub TurnsNeverGain : Type 0
 TurnsNeverGain = (texts : Texts) (document : List ℕ) (library : PlainLibrary) (s : State) → IsReached texts document library s → LossesNeverHelp s

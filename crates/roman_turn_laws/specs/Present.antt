@@ -30,7 +30,7 @@ pub record IsSaidAfresh (s : State) : Type 0 where
   pub means : (texts : Texts) (document : List ℕ) → library_in texts document (library_value (afresh s)) ≡ Ok (afresh s)
   pub fits : cells (system_of (parts_of (afresh s))) ≤ (afresh s).limit
 
--- this holds of each state that a session of an accepted document with one target reaches
+-- a document can state the library that begins in each state that a session of an accepted document with one target reaches
 abbrev pub PresentIsSaid : Type 0
 PresentIsSaid =
     (texts : Texts) (document : List ℕ) (library : PlainLibrary) (s : State) → IsReached texts document library s → ((said : PlainTargets) → NamesTargets texts document said → ⊥) → IsSaidAfresh s
@@ -41,7 +41,7 @@ targets_at [] ts = []
 targets_at (x ∷ targets) [] = []
 targets_at (x ∷ targets) (t ∷ ts) = record { name = x.name; target = record x.target { beh = record x.target.beh { start = t } } } ∷ targets_at targets ts
 
--- what the document names, with the starting states of a combined state of the targets and of an environment's state
+-- the parts and targets that the document names, with the starting states of a combined state of the targets and of an environment's state
 abbrev pub said_at : PlainTargets → ℕ → ℕ → PlainTargets
 said_at said t e = record {
   environment = record said.environment { env = record said.environment.env { start = e } };
@@ -49,15 +49,15 @@ said_at said t e = record {
   targets = targets_at said.targets (states_at (target_sizes (machines said.targets)) t);
 }
 
--- a document can state the targets in the states that the state combines, with the present services: its written value means the library
--- that begins in the state, which combines these targets and is within its limit, for all texts of a shelf
+-- A document can state the targets in the states that the state combines, with the present services. Its written value means the library
+-- that begins in the state, which combines these targets and is within its limit, for all texts of a shelf.
 pub record AreSaidAfresh (said : PlainTargets) (s : State) : Type 0 where
   pub sayable : AreSayable (said_at said s.here.t s.here.e) (afresh s).services (afresh s).limit
   pub combines : combined_library (said_at said s.here.t s.here.e) (afresh s).services (afresh s).limit ≡ afresh s
   pub means : (texts : Texts) (document : List ℕ) → library_in texts document (several_value (said_at said s.here.t s.here.e) (afresh s).services (afresh s).limit) ≡ Ok (afresh s)
   pub fits : cells (system_of (parts_of (afresh s))) ≤ (afresh s).limit
 
--- this holds of each state that a session of an accepted document with several targets reaches
+-- a document can state the targets in each state that a session of an accepted document with several targets reaches
 abbrev pub PresentTargetsAreSaid : Type 0
 PresentTargetsAreSaid =
     (texts : Texts) (document : List ℕ) (library : PlainLibrary) (s : State) (said : PlainTargets) → IsReached texts document library s → NamesTargets texts document said → AreSaidAfresh said s

@@ -1,4 +1,4 @@
--- The parts so far are known and as many as the items so far, the remaining items give the result of all items, and the shelf is as before.
+-- The parts so far are well formed and as many as the items so far, the remaining items give the result of all items, and the shelf is as before.
 use Rattle.roman_library.proofs.Common.{Some, [], length, ◌≡◌, Texts, IsLeft, each_item, items_view, listed_step}
 use Rattle.roman_library.proofs.listing.load_items.Given as goal
 

@@ -1,4 +1,4 @@
--- A service that is read is appended to those before it, and a service that isn't gives the result of all services.
+-- A service that is read is appended to those before it, and an error of a service is the result of all services.
 use Rattle.roman_library.proofs.Common.{Err, None, arith, map, refl, rules, ◌≡◌, err_from_is_err_and, goes_on, is_done, place_of, view, service_of, service_step, IsService, service_name, Service}
 use Rattle.roman_library.proofs.PlacedLemmas.{placed_keeps, placed_loads, placed_ok, stops_all, stops_left}
 use Rattle.roman_library.specs.declared.refusal.Part.TheVariants as part

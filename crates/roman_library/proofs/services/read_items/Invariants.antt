@@ -1,4 +1,4 @@
--- The services so far are known and as many as the items so far, and the remaining items give the result of all items.
+-- The services so far are well formed and as many as the items so far, and the remaining items give the result of all items.
 use Rattle.roman_library.proofs.Common.{[], length, ◌≡◌, IsLeft, each_item, items_view, service_step, AreServices}
 use Rattle.roman_library.proofs.services.read_items.Given as goal
 
