@@ -2,7 +2,7 @@
 use Rattle.roman_cert.proofs.Common.{Act, Final, AreNumbers, answer_at, get_in, get_or-below, length-below, Board, as_entry, has_entry, pairs_of, Bool, IsFalse, IsTrue, List, Option, Some, [], ap, append-nil, arith, cond, filter, flat_map, length, map, refl, sym, true, ℕ, ◌<◌, ◌∙◌, ◌∷◌, ◌≡◌, ◌≤◌, Entry, IsNamedSys, NamedSys, seat_of, system_of, Pair, answer, answer_line, answers_text, arena, is_ready, arena_of, below, cond-false, cond-true, entry_at, pair_at, sizes_of, flat_map-map, length-map, listed_numbers, names_in, option_map, slice_get, slice_get-get_or, text_of_lines, with_newline}
 use Rattle.roman_cert.proofs.Rests.{rest_of, flat_map-filter}
 
--- the line of the service at place k, which says how it may answer the action a at the pair of number p; none where it isn't ready
+-- the line of the service at place k, with its answer to the action a at the pair with the number p; empty if it isn't ready
 pub seat_text : NamedSys → List (Entry ℕ) → ℕ → ℕ → ℕ → List ℕ
 seat_text n L p a k =
     let s = system_of n in
@@ -18,7 +18,7 @@ answers_begin n L p a =
     append-nil (flat_map (seat_text n L p a) (below (length s.seats)))
     ∙ sym (flat_map-map with_newline line (filter ready (below (length s.seats))) ∙ flat_map-filter ready (λ k. with_newline (line k)) (below (length s.seats)))
 
--- there are no such lines where clause 2 fails
+-- an entry at which clause 2 fails has no lines of services
 pub no_answers : (n : NamedSys) (L : List (Entry ℕ)) (p : ℕ) → answers_text n L (as_entry (p, Final)) ≡ []
 unfolding answers_text
 no_answers n L p = refl
@@ -44,7 +44,7 @@ seat_said n board i p a k found bytes known shaped in_range e ready is said =
     said ∙ append-nil _ ∙ ap (λ (o : Option Pair). with_newline (answer_line (names_in n) k o)) (ap (option_map (pair_at (sizes_of s))) is ∙ answer_at s known.system board.list are p l a k)
     ∙ sym (cond-true (is_ready (slice_get s.seats k)) _ [] ready)
 
--- a service that isn't ready has none
+-- a service that isn't ready has no line
 pub seat_frozen : (n : NamedSys) (L : List (Entry ℕ)) (p a k : ℕ) → IsFalse ((arena_of n).ready k) → [] ≡ seat_text n L p a k
 unfolding seat_text
 seat_frozen n L p a k frozen = sym (cond-false (is_ready (slice_get (system_of n).seats k)) _ [] frozen)

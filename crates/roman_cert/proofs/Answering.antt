@@ -11,7 +11,7 @@ position_least test d (x ∷ xs) m e = elim (cases_Bool (test x)) [
   | inr f ↦ let later = rw f at e in omega (arith, position_least test (d + 1) xs m later)
 ]
 
--- the first element that passes is among the first i exactly where its place is
+-- the first element that passes is among the first i exactly if its place is
 position_among : {X : Type 0} (test : X → Bool) (d i : ℕ) (xs : List X) (m : ℕ) → position_from test d xs ≡ Some m → list_any test (take i xs) ≡ ltb m (d + i)
 position_among test d i [] m e = cc
 position_among test d zero (x ∷ xs) m e = sym (le-ltb m (d + 0) (omega (arith, position_least test d (x ∷ xs) m e)))
@@ -25,7 +25,7 @@ position_among test d (suc i) (x ∷ xs) m e = elim (cases_Bool (test x)) [
       rw f (position_among test (d + 1) i xs m later ∙ ap (ltb m) shifted)
 ]
 
--- a listed pair stands before a place exactly where its own place is smaller
+-- a listed pair comes before a place exactly if its own place is smaller
 pub place_before : (L : List (Entry ℕ)) (q i m : ℕ) → place_in_list L q ≡ Some m → ltb m i ≡ has_entry (take i L) q
 place_before L q i m e =
     let whole : 0 + i ≡ i = omega arith in
@@ -79,7 +79,7 @@ find_alike : {X : Type 0} (p q : X → Bool) (xs : List X) → ((x : X) → p x 
 find_alike p q [] same = refl
 find_alike p q (x ∷ xs) same = ap₂ (λ b o. cond b (Some x) o) (same x) (find_alike p q xs same)
 
--- the first outcome that stands before the entry's place is the defeating answer
+-- the first outcome that is listed before the entry's place is the defeating answer
 pub answer_found : (A : Arena ℕ) → IsNumbered A → (n : Sizes) (L : List (Entry ℕ)) (i p a k : ℕ) (finding : Finding) → IsOrder A L → slice_get L i ≡ Some (record { node = p; reason = Act a }) →
     HasFinding n k (has_entry (take i L)) (A.outcomes p a k) finding → pair_of finding ≡ answer A L p a k
 answer_found A ok n L i p a k finding order e found = named finding found.is ∙ sym is

@@ -45,7 +45,7 @@ complete_numbers s L sys complete x i = pair_number s x.node sys (complete.pairs
 within_limit : (n : NamedSys) → IsNamedSys n → IsWithinCells (system_of n)
 within_limit n known = omega (arith, known.fits, known.limit.1)
 
--- where a certificate of a complete list was written, a checker accepts it
+-- a checker accepts a written certificate of a complete list
 pub written_accepted : {T E : Type 0} (n : NamedSys) (L : List (Entry ℕ)) (before now : Option (List ℕ)) (result : Result T E) → IsNamedSys n → IsCompleteList (system_of n) L →
     Puts before now (cert_text (count (sizes_of (system_of n))) L) result → OnOk result (WroteGreatest (system_of n) before now)
 written_accepted n L before now (Ok x) known complete wrote = record {

@@ -16,7 +16,7 @@ module _ {N : Type 0} (A : Arena N) (same : IsSame A) (L : List (Entry N)) (orde
   pub rests_all : (q : N) → rests_from A L p 0 q ≡ rests_on A L (length L) p q
   rests_all q = sym (rests_is A L p q same)
 
-  -- no entry up to that of x has x's node for an answer
+  -- no entry up to that of x has x's node as an answer
   none_before : (i : ℕ) (x y : Entry N) → slice_get L i ≡ Some x → IsIn y (take (i + 1) L) → IsIn x.node (answers A L y.node y.reason) → ⊥
   none_before i x y e here answered =
       let (before, after, cut) = split_at y (take (i + 1) L) here in
@@ -31,7 +31,7 @@ module _ {N : Type 0} (A : Arena N) (same : IsSame A) (L : List (Entry N)) (orde
       let short : length (take (i + 1) L) ≡ length (before ++ y ∷ after) = ap length cut in
       omega (arith, length-take i L, length-take (i + 1) L, length-append before (y ∷ after))
 
-  -- so the entries after x's decide whether p's entry depends on x's
+  -- the entries after x's decide whether p's entry depends on x's
   pub rests_settled : (i : ℕ) (x : Entry N) → slice_get L i ≡ Some x → rests_from A L p (i + 1) x.node ≡ rests_on A L (length L) p x.node
   rests_settled i x e = same_test (rests_from A L p (i + 1) x.node) (rests_on A L (length L) p x.node)
       (λ t. rests_is A L p x.node same ∙ back (or_cases (A.same x.node p) (list_any (leads_to A L p x.node) (drop (i + 1) L)) t))
@@ -95,11 +95,11 @@ answers_all A ok L p a q =
         (λ f. ap (λ (o : Option ℕ). is_among A (option_to_list o) q || list_any (λ k. is_among A (option_to_list (answer A L p a k)) q) ks) (unready_answer A ok L p a k f)
         ∙ each ks ∙ sym (ap (list_any (λ k. is_among A (option_to_list (answer A L p a k)) q)) (cond-false (A.ready k) (k ∷ filter A.ready ks) (filter A.ready ks) f)))
 
--- where the answers of all seats are marked, all answers to the request are marked
+-- if the answers of all seats are marked, all answers to the request are marked
 pub answers_marked : (A : Arena ℕ) → IsNumbered A → (L : List (Entry ℕ)) (p a n q : ℕ) (old new : Bool) → n ≡ A.seats → new ≡ (old || answers_up_to A L p a n q) → new ≡ (old || is_among A (answers A L p (Act a)) q)
 answers_marked A ok L p a n q old new seats is = is ∙ ap (λ (b : Bool). old || b) (ap (λ m. answers_up_to A L p a m q) seats ∙ answers_all A ok L p a q)
 
--- the answer of one more seat is marked, where it has one
+-- the answer of one more seat is marked, if it has one
 pub seats_more : (A : Arena ℕ) (L : List (Entry ℕ)) (p a k q : ℕ) (first old now : Bool) (found : Option ℕ) → found ≡ answer A L p a k →
     old ≡ (first || answers_up_to A L p a k q) → now ≡ (old || is_among A (option_to_list found) q) → now ≡ (first || answers_up_to A L p a (k + 1) q)
 seats_more A L p a k q first old now found is before after = grind (arith, list_any-append, or-false)

@@ -1,4 +1,4 @@
--- What is left of a text that is pushed element by element.
+-- The rest of a text that is pushed element by element.
 use Rattle.roman_cert.proofs.Common.{Bool, List, Option, Result, Some, [], add-one, ap, append_assoc, ap₂, cond, drop, drop-cons, filter, flat_map, length, refl, subst, sym, ℕ, ◌++◌, ◌+◌, ◌∙◌, ◌∷◌, ◌≡◌, ◌≤◌, Gathered, IsFilling, Puts-after_Gathered, fill_failed, fill_more, fill_same, Puts, WrotePrefix, Puts-after, by_test, drop_all, err_from_is_err_and, get_or_from_slice_get, slice_get_within, slice_get}
 
 -- the rest of a list from a place on: the element there, and the rest after it
@@ -28,7 +28,7 @@ module _ {X : Type 0} (f : X → List ℕ) (xs : List X) (end : List ℕ) (i : �
   pub fill_next : (new : Option (List ℕ)) (after : List ℕ) → Gathered now new after (held ++ bytes) → IsFilling old new after (rest_of f xs end (i + 1)) all
   fill_next new after g = fill_more _ _ _ _ _ _ _ _ next g
 
-  -- pushing it failed
+  -- the push of one more element failed
   pub fill_stops : (new : Option (List ℕ)) → WrotePrefix now new (held ++ bytes) → WrotePrefix old new all
   fill_stops new w = fill_failed _ _ _ _ _ _ _ next w
 
@@ -42,7 +42,7 @@ pub fill_ends : {X : Type 0} (f : X → List ℕ) (xs : List X) (end : List ℕ)
 unfolding rest_of
 fill_ends f xs end i old now held all past filling = fill_same _ _ _ _ _ _ (ap (λ ys. flat_map f ys ++ end) (drop_all i xs past)) filling
 
--- what is left is written, with what the page holds
+-- the rest of the text is written, after the bytes of the page
 pub fill_written : {T E : Type 0} (old now new : Option (List ℕ)) (held rest all : List ℕ) (result : Result T E) → IsFilling old now held rest all → Puts now new (held ++ rest) result → Puts old new all result
 fill_written old now new held rest all result f p =
     let g = f.gathered in

@@ -9,7 +9,7 @@ pub entry_pair : (n : NamedSys) (board : Board) (i : ℕ) (x : Entry ℕ) → pa
     x.node < count (sizes_of (system_of n))
 entry_pair n board i x shaped in_range e = listed_numbers (system_of n) board shaped in_range x (get_in board.list i x e)
 
--- its reason names an action of the system
+-- the reason of the entry at a place names an action of the system
 pub entry_reason : (n : NamedSys) (L : List (Entry ℕ)) (i : ℕ) (x : Entry ℕ) → IsNamedSys n → IsOrder (arena_of n) L → slice_get L i ≡ Some x → IsReasonOf (arena_of n) x.reason
 entry_reason n L i x known order e = by_reason x.reason e
   where

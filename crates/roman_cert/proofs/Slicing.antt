@@ -2,7 +2,7 @@
 use Rattle.roman_cert.proofs.Common.{AreNumbers, explanation_at, explanation_is_least, explanation_is_order, filter_same, numbers_are_pairs, order_won, Board, is_marked, Entry, is_listed, ExplainedOrder, answer_lines, entry_lines, explain_text, explanation, lost_line, rests_on, Great, IsCompleteList, count, entry_at, pair_at, sizes_of, IsNamedSys, NamedSys, system_of, IsTrue, List, [], ap, ap₂, codes, filter, flat_map, length, map, refl, sym, ℕ, ◌++◌, ◌<◌, ◌∙◌, ◌∷◌, ◌≡◌, OpponentWins, answers_text, entry_text, lost_text, marked_text, arena, arena_of, flat_map-append, names_in, text_of_lines, with_newline}
 use Rattle.roman_cert.proofs.Rests.{flat_map-filter}
 
--- What is printed
+-- The printed text
 
 -- the lines of an entry, over pairs
 entry_text_is : (n : NamedSys) (L : List (Entry ℕ)) (x : Entry ℕ) → entry_text n L x ≡ text_of_lines (entry_lines (system_of n) (names_in n) (map (entry_at (system_of n)) L) (entry_at (system_of n) x))
@@ -18,7 +18,7 @@ entries_text_is n L (x ∷ M) =
     let lines = entry_lines s (names_in n) (map (entry_at s) L) in
     ap₂ (λ (bs cs : List ℕ). bs ++ cs) (entry_text_is n L x) (entries_text_is n L M) ∙ sym (flat_map-append with_newline (lines (entry_at s x)) (flat_map lines (map (entry_at s) M)))
 
--- where exactly the entries on which p's entry depends are marked, the lines of the marked ones are the explanation
+-- if exactly the entries on which p's entry depends are marked, the lines of the marked ones are the explanation
 pub explanation_said : (n : NamedSys) (board : Board) (L : List (Entry ℕ)) (p : ℕ) → IsNamedSys n → AreNumbers (system_of n) L → p < count (sizes_of (system_of n)) → board.list ≡ L →
     ((q : ℕ) → is_marked board q ≡ rests_on (arena_of n) L (length L) p q) →
     flat_map (marked_text n board) board.list ++ codes "end\n" ≡ explain_text (system_of n) (names_in n) (map (entry_at (system_of n)) L) (pair_at (sizes_of (system_of n)) p)
@@ -33,7 +33,7 @@ explanation_said n board L p known are l same marked =
     ∙ sym (flat_map-append with_newline (flat_map lines (map (entry_at s) (explanation (arena_of n) L p))) (codes "end" ∷ []))
     ∙ ap (λ M. text_of_lines (flat_map lines M ++ codes "end" ∷ [])) (explanation_at s known.system L are p l)
 
--- What it refutes
+-- The refutation
 
 pub unrelated_listed : (n : NamedSys) (L : List (Entry ℕ)) (p : ℕ) → IsCompleteList (system_of n) L → p < count (sizes_of (system_of n)) → (Great (system_of n) (pair_at (sizes_of (system_of n)) p) → ⊥) →
     IsTrue (is_listed (arena (system_of n)) (map (entry_at (system_of n)) L) (pair_at (sizes_of (system_of n)) p))

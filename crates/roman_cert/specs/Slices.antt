@@ -10,24 +10,24 @@ use Rattle.roman_joint.specs.Names.{names_in}
 use Rattle.roman_order.specs.Board.{Board, as_entry, is_marked}
 use Rattle.roman_cert.specs.declared.slice.Placed.{Placed}
 
--- the line that says which pair is lost, and why
+-- the line of a lost pair, with the reason
 unfoldable pub lost_text : NamedSys → Entry ℕ → List ℕ
 lost_text n x = text_of_lines (lost_line (names_in n) (entry_at (system_of n) x) ∷ [])
 
--- the lines that say how the ready services may answer the entry's action, where the entry is one of the list
+-- the lines of the ready services, each with its answer to the entry's action, if the entry is one of the list
 unfoldable pub answers_text : NamedSys → List (Entry ℕ) → Entry ℕ → List ℕ
 answers_text n L x =
     let s = system_of n in
     text_of_lines (answer_lines s (names_in n) (map (entry_at s) L) (pair_at (sizes_of s) x.node) x.reason)
 
--- the lines that say which pair is lost and why, and how the ready services may answer
+-- the line of a lost pair with the reason, and the lines of the ready services
 unfoldable pub entry_text : NamedSys → List (Entry ℕ) → Entry ℕ → List ℕ
 entry_text n L x = lost_text n x ++ answers_text n L x
 
--- the lines of an entry of the order's list, or none where its pair isn't marked
+-- the lines of an entry of the order's list, or none if its pair isn't marked
 unfoldable pub marked_text : NamedSys → Board → Entry ℕ → List ℕ
 marked_text n board x = if is_marked board x.node then entry_text n board.list x else []
 
--- the entry stands at its place of the list, with this reason
+-- the entry is at its place of the list, with this reason
 abbrev pub StandsIn : List (Entry ℕ) → Placed → Reason → Type 0
 StandsIn L entry reason = slice_get L entry.place ≡ Some (as_entry (entry.pair, reason))

@@ -23,8 +23,8 @@ fn is_before(order: &Order, i: u32, q: u32) -> bool
 }
 
 /// Returns the defeating answer of seat `k` to the entry at place `i`, whose pair is `p` and whose
-/// reason is the action `a`: the first outcome whose pair stands earlier in the list. Outcomes are
-/// ordered by the environment's state, and then by the seat's. Returns `None` where the seat isn't
+/// reason is the action `a`: the first outcome whose pair is earlier in the list. Outcomes are
+/// ordered by the environment's state, and then by the seat's. Returns `None` if the seat isn't
 /// ready or has no such outcome.
 pub(crate) fn answer<J: Rules, L: Ledger>(
     joint: &J,

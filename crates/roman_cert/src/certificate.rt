@@ -21,7 +21,7 @@ use roman_rules::Rules;
 use roman_text::{Page, Piece};
 
 /// Writes the certificate of a relation: its removal list, one entry a line. A checker accepts the
-/// certificate of a complete list. Fails only where the sink's count of faults rose; a prefix of the
+/// certificate of a complete list. Fails only if the sink's count of faults rose; a prefix of the
 /// certificate was then written.
 pub fn write_order<O: Sink>(relation: &Relation, out: &mut O) -> Result<(), Failed>
     ensures text { let s = system_of relation.now.joint in
@@ -61,7 +61,7 @@ fn head_piece(pairs: u32) -> Piece
     text.number(pairs).text(b"\n")
 }
 
-/// Returns the letter that is the text of a reason, or `None` where the text is longer.
+/// Returns the letter that is the text of a reason, or `None` if the text is longer.
 #[inline(always)]
 #[tactic(auto, using(std::proofs::lemmas::Fmt::decimal_digit))]
 fn letter_of(reason: Reason) -> Option<u8>
@@ -78,7 +78,7 @@ fn letter_of(reason: Reason) -> Option<u8>
     }
 }
 
-/// Pushes the line of an entry on the page. Makes it from the line before where the pair has at least
+/// Pushes the line of an entry on the page. Makes it from the line before if the pair has at least
 /// three digits and the reason is one letter.
 #[inline(always)]
 fn push_entry<O: Sink>(

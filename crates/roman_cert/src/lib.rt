@@ -1,9 +1,9 @@
 //! Writers of certificates and of explanations.
 //!
 //! [`write_order`] writes the certificate of a relation: its removal list. A checker needs only the
-//! transitions of the system to check that the list is complete. [`write_slice`] explains why a pair
-//! isn't related: it writes the part of the list on which the pair's entry depends. No call takes
-//! memory.
+//! transitions of the system to check that the list is complete. [`write_slice`] explains why a
+//! pair isn't related: it writes the part of the list on which the pair's entry depends. No call
+//! allocates memory.
 #![tactic(auto)]
 
 mod answers;

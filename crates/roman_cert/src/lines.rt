@@ -17,7 +17,7 @@ use roman_joint::Joint;
 use roman_model::Reason;
 use roman_text::{Page, Piece};
 
-/// Pushes the last line, and writes what the page holds.
+/// Pushes the last line, and writes the bytes of the page.
 #[tactic(auto, using(crate::proofs::Rests::finished))]
 pub(crate) fn finish<O: Sink>(page: &mut Page, out: &mut O) -> Result<(), Failed>
     ensures text { Puts (O.written out.old) (O.written out.new) (page.old ++ codes "end\n") result }
@@ -27,7 +27,7 @@ pub(crate) fn finish<O: Sink>(page: &mut Page, out: &mut O) -> Result<(), Failed
     page.flush(out)
 }
 
-/// Pushes the line that says that the pair `p` is lost, and why.
+/// Pushes the line of the lost pair `p`, with the reason why it is lost.
 pub(crate) fn push_lost<O: Sink>(
     joint: &Joint,
     p: u32,
@@ -87,8 +87,7 @@ fn reason_piece(joint: &Joint, reason: Reason) -> Piece
     }
 }
 
-/// Returns the line of the service at place `k`: the states with which it may answer, or that it
-/// cannot.
+/// Returns the line of the service at place `k`: the states with which it may answer, or `cannot`.
 pub(crate) fn answer_piece(joint: &Joint, k: u8, answer: Option<u32>) -> Piece
     requires seat { k < length joint.now.seats }
     requires pair { ForSome answer (λ q. q < joint_pairs joint.now) }

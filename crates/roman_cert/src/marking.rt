@@ -12,7 +12,7 @@ use roman_rules::Rules;
 use std::sync::ledger::Ledger;
 
 /// Marks exactly the entries on which the entry of the pair `p` depends, that entry included. Each
-/// answer to an entry stands before it, so one pass from the end of the list is enough.
+/// answer to an entry comes before it, so one pass from the end of the list is enough.
 pub(crate) fn mark_slice<J: Rules, L: Ledger>(
     joint: &J,
     order: &mut Order,
@@ -26,7 +26,7 @@ pub(crate) fn mark_slice<J: Rules, L: Ledger>(
         (q : ℕ) → is_marked order.new q ≡ rests_on (J.arena joint.now) L (length L) p q }
     ensures rest { order.new ≡ record order.old { marks = order.new.marks } }
 {
-    joint.known(); // pairs are told apart by their numbers
+    joint.known(); // no two pairs have the same number
     order.clear_marks();
     order.mark(p);
     for i in (0..order.len()).rev() {
@@ -34,7 +34,7 @@ pub(crate) fn mark_slice<J: Rules, L: Ledger>(
     }
 }
 
-/// Marks the defeating answers to the entry at place `i`, where that entry is marked.
+/// Marks the defeating answers to the entry at place `i` if that entry is marked.
 #[tactic(auto, using(crate::proofs::Answering::entry_node))]
 fn visit<J: Rules, L: Ledger>(joint: &J, order: &mut Order, i: u32, steps: &mut Steps<L>)
     requires shaped { pairs_of order.old ≡ length (J.arena joint.now).nodes }
@@ -46,7 +46,7 @@ fn visit<J: Rules, L: Ledger>(joint: &J, order: &mut Order, i: u32, steps: &mut 
         && is_among A (answers A order.old.list x.node x.reason) q)) }
     ensures rest { order.new ≡ record order.old { marks = order.new.marks } }
 {
-    joint.known(); // pairs are told apart by their numbers
+    joint.known(); // no two pairs have the same number
     order.known(); // listed pairs are pairs of the system
     let (p, reason) = order.entry(i);
     if !order.marked(p) {
@@ -76,7 +76,7 @@ fn mark_answers<J: Rules, L: Ledger>(
         ≡ (is_marked order.old q || is_among A (answers A order.old.list p (Reason.Act a)) q) }
     ensures rest { order.new ≡ record order.old { marks = order.new.marks } }
 {
-    joint.known(); // pairs are told apart by their numbers
+    joint.known(); // no two pairs have the same number
     for k in 0..joint.seats() {
         if let Some(q) = answer(joint, order, i, p, a, k, steps) {
             order.mark(q);

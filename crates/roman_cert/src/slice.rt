@@ -33,10 +33,10 @@ use std::sync::ledger::Ledger;
 /// each entry with the answers that defeat the services. Requires a complete list, and a pair that
 /// isn't related.
 ///
-/// The written entries are a removal list by themselves, and end with the entry of `p`. An opponent who
-/// plays by them wins within as many requests as there are entries. Changes at most the marks of the
-/// relation. Fails only where the sink's count of faults rose; a prefix of the explanation was then
-/// written.
+/// The written entries are a removal list by themselves, and end with the entry of `p`. An opponent
+/// who plays by them wins within as many requests as there are entries. Changes at most the marks
+/// of the relation. Fails only if the sink's count of faults rose; a prefix of the explanation was
+/// then written.
 pub fn write_slice<O: Sink, L: Ledger>(
     relation: &mut Relation,
     p: u32,
@@ -110,7 +110,6 @@ struct Placed {
     reason: Reason,
 }
 
-/// Pushes the lines of an entry.
 fn push_entry<O: Sink, L: Ledger>(
     joint: &Joint,
     order: &Order,

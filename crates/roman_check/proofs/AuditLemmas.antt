@@ -7,7 +7,7 @@ use Rattle.roman_model.specs.Certificate as text
 pub few_numbered : (A : Arena ℕ) → IsNumbered A → AreFew (length A.nodes) A.actions
 few_numbered A ok = grind arith
 
--- the fault of an entry, where it is known whether its pair is new and whether its reason holds
+-- the fault of an entry, by whether its pair is new and whether its reason holds
 pub fault_by : (A : Arena ℕ) (L : List (Entry ℕ)) (x : Entry ℕ) (new holds : Bool) → new ≡ not (is_listed A L x.node) → holds ≡ is_justified A (is_listed A L) x.node x.reason →
     (if new then (if holds then None else Some text.Unjustified) else Some text.Repeated) ≡ entry_fault A L (Some x)
 fault_by A L x true holds e is = rw (not-true (is_listed A L x.node) (sym e), is) refl
@@ -17,7 +17,7 @@ fault_by A L x false holds e is = rw (not-false (is_listed A L x.node) (sym e)) 
 listed_more : (A : Arena ℕ) → IsNumbered A → (L : List (Entry ℕ)) (x : Entry ℕ) (q : ℕ) → is_listed A (L ++ x ∷ []) q ≡ (is_listed A L q || q == x.node)
 listed_more A ok L x q = list_any-append (λ y. A.same q y.node) L (x ∷ []) ∙ ap (λ b. is_listed A L q || b) (or-false (A.same q x.node) ∙ ok.same q x.node)
 
--- what an audit holds, by the lanes of the system
+-- the contents of an audit, by the lanes of the system
 pub listed_rows : (A : Arena ℕ) (L : List (Entry ℕ)) (left : Remaining) (probe : RowProbe) (lanes : ℕ) → HasListed A L left probe → left.lanes ≡ lanes → (words : List ℕ) → words ≡ left.words.items → AreRows lanes (λ q. not (is_listed A L q)) words
 listed_rows A L left probe lanes has shaped words same = subst (AreRows lanes (λ q. not (is_listed A L q))) (sym same) (subst (λ m. AreRows m (λ q. not (is_listed A L q)) left.words.items) shaped has.remain.rows)
 
@@ -33,7 +33,7 @@ reason_given A (Act a) (inr i) =
 pub pair_within : (lanes pairs : ℕ) (left : Remaining) → IsInRows lanes pairs left → (p row lane : ℕ) → row * left.lanes + lane ≡ p → p < pairs → row < length left.words.items
 pair_within lanes pairs left shaped p row lane e l = grind (arith, cases_lt, mul-le)
 
--- the last line, where this pair or no pair is missing
+-- the last line, if this pair or no pair is missing
 pub end_judged : (A : Arena ℕ) (L : List (Entry ℕ)) (line : List ℕ) (found : Option ℕ) → found ≡ find (could_be_listed A L) A.nodes → IsTrue (same_numbers end_line line) → option_map text.Unlisted found ≡ body_fault A L (Some line)
 end_judged A L line found e is =
     ap (option_map text.Unlisted) e ∙ sym (cond-true (same_numbers end_line line) (end_fault A L) (entry_fault A L (entry_of (length A.nodes) A.actions line)) is)
@@ -44,9 +44,9 @@ ended_list A ok L line is =
     let none : entry_of (length A.nodes) A.actions end_line ≡ None = entry_of_other (length A.nodes) A.actions 101 (110 ∷ 100 ∷ []) (few_numbered A ok) (omega arith) in
     sym (ap (λ o. L ++ cons_option o []) (rw (same_numbers_is end_line line is) at none) ∙ append-nil L)
 
--- What was read, by what is due
+-- The lines that were read, by the line that is due
 
--- the lines that were read, where this line is due
+-- the lines that were read, if this line is due
 abbrev IsDue : Due → List (List ℕ) → Type 0
 IsDue Head lines = lines ≡ []
 IsDue Count lines = (head : List ℕ) × (lines ≡ head ∷ [])
@@ -58,7 +58,7 @@ due_so_far [] = refl
 due_so_far (head ∷ []) = (head, refl)
 due_so_far (head ∷ size ∷ body) = by_test (list_any (same_numbers end_line) body) (λ t. rw t (head, size, body, refl, t)) (λ f. rw f (head, size, body, refl, f))
 
--- the same, where it is known which line is due
+-- the lines that were read, from the line that is due
 pub lines_due : (due : Due) (lines : List (List ℕ)) → due ≡ due_after lines → IsDue due lines
 lines_due due lines e = subst (λ due. IsDue due lines) (sym e) (due_so_far lines)
 

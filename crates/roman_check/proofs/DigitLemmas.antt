@@ -21,7 +21,7 @@ digits_step ds i d l digit is all =
 pub digits_below : (ds : List ℕ) (i : ℕ) → i ≤ length ds → i ≤ 10 → AllDigits 10 (take i ds) → digits_value 10 (take i ds) < 10 ^ 10
 digits_below ds i l few all = digits_value_short own (take i ds) 10 all (omega (arith, length-take-le i ds))
 
--- none of the first digits is a stop byte below the digits
+-- no digit at the start is a stop byte below the digits
 pub no_stop_digit : (stop : ℕ) (line : List ℕ) (i k : ℕ) → stop < 48 → i ≤ length line → AllDigits 10 (take i line) → k < i → get_or line k 0 ≢ stop
 no_stop_digit stop line i k low_stop within all l stops =
     let short : length (take i line) ≡ i = length-take-le i line within in
@@ -30,7 +30,7 @@ no_stop_digit stop line i k low_stop within all l stops =
     let same : get_or (take i line) k 0 ≡ get_or line k 0 = get_or-take i line k 0 l in
     omega arith
 
--- where no stop byte follows the digits at the start, the bytes don't begin with a number up to that byte
+-- if no stop byte follows the digits at the start, the bytes don't begin with a number up to that byte
 pub no_number_to : (stop : ℕ) (line : List ℕ) (value i j : ℕ) → stop < 48 → HasDigits line value i → (i < length line → get_or line i 0 ≢ stop) → IsNumberTo stop line j → ⊥
 no_number_to stop line value i j low has other number = elim (cases_order i j) [
   | inl same ↦ other (omega (arith, number.within)) (ap (λ k. get_or line k 0) same ∙ number.stops)

@@ -19,7 +19,7 @@ ended_early A start bytes reader has short other =
     verdict_ended A start bytes (lines bytes) text.Form short refl has.clean (may_not_end A (lines bytes) reader.audit has.read other)
     ∙ ap (λ n. text.Rejected (n + 1) text.Form) (sym has.counted)
 
--- What is read where nothing is missing
+-- The first two lines
 
 -- the first two lines are no entries
 unread : (A : Arena ℕ) → IsNumbered A → (due line : List ℕ) (b : ℕ) (bs : List ℕ) → unless_is due (Some line) ≡ None → due ≡ b ∷ bs → 57 < b → entry_of (length A.nodes) A.actions line ≡ None

@@ -10,7 +10,7 @@ part_at n m k xs l = get_or-take m (drop n xs) k 0 l ∙ get_or-drop n xs k 0
 part_same : (n m : ℕ) (xs ys : List ℕ) → n + m ≤ length xs → n + m ≤ length ys → ((k : ℕ) → n ≤ k → k < n + m → get_or xs k 0 ≡ get_or ys k 0) → take m (drop n xs) ≡ take m (drop n ys)
 part_same n m xs ys l h same = grind (arith, same_number_lists, part_at, length-take, length-drop {A = ℕ})
 
--- where the bytes up to the newline are the same except for the two digits, so is the pattern
+-- if the bytes up to the newline are the same except for the two digits, so is the pattern
 pub pattern_same : (xs ys : List ℕ) (s : Shape) → IsPattern xs s → s.len < length ys → ((k : ℕ) → k ≤ s.len → k ≢ s.place → k ≢ s.place + 1 → get_or xs k 0 ≡ get_or ys k 0) → IsPattern ys s
 pattern_same xs ys s is within same =
     let before : s.place + 2 < s.len = is.rest.before in

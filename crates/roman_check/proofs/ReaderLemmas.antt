@@ -101,7 +101,7 @@ module _ (A : Arena ℕ) (lanes : ℕ) (old new : Reader) (piece : List ℕ) (fr
         cleared = λ none. subst (λ line. Holds line []) (sym same) between.line;
       })
 
--- the bytes behind the last newline of a piece
+-- the bytes after the last newline of a piece
 pub rest_read : (A : Arena ℕ) (lanes : ℕ) (old new : Reader) (piece rest : List ℕ) (from : ℕ) → from ≤ length piece → rest ≡ drop from piece → IsLine rest → IsInRows lanes (length A.nodes) old.audit.left → new.audit ≡ old.audit → new.lines ≡ old.lines →
     ((bytes : List ℕ) → Holds old.line bytes → Holds new.line (bytes ++ rest)) → ReadsPart A lanes old new piece from (length piece) None
 rest_read A lanes old new piece rest from within is line shaped same count pushed = record {

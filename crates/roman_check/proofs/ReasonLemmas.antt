@@ -23,7 +23,7 @@ pub copied : (lanes x from i word : ℕ) (gone : ℕ → Bool) (words : List ℕ
 copied lanes x from i word gone words rows within start same = subst (HasLanes lanes (x + i) (λ q. not (gone q))) (sym (same ∙ ap (λ m. get_or words (m + i) 0) start)) (rows.each (x + i) within)
 
 module _ (A : Arena ℕ) (L : List (Entry ℕ)) (lanes x left lost : ℕ) (rest : HasLanes lanes x (λ p. not (is_listed A L p)) left) (none : (lane : ℕ) → is_on left lane ≡ false → is_on lost lane ≡ false) where
-  -- where no pair of a row is left, none is missing
+  -- if no pair of a row is left, none is missing
   pub none_left : left ≡ 0 → HasLanes lanes x (could_be_listed A L) 0
   none_left empty = record { each = grind (arith, rest.each, on_zero, empty); rest = λ lane l. on_zero lane }
 
@@ -31,7 +31,7 @@ module _ (A : Arena ℕ) (L : List (Entry ℕ)) (lanes x left lost : ℕ) (rest 
   pub final_lanes : ((lane : ℕ) → lane < lanes → is_on lost lane ≡ (is_on left lane && not (A.fine (x * lanes + lane)))) → HasLanes lanes x (could_be_by A L 0) lost
   final_lanes here = record { each = λ lane l. grind (arith, here lane l, rest.each lane l, or-false); rest = λ lane l. none lane (rest.rest lane l) }
 
-  -- the same where one more action is probed for
+  -- the missing pairs of a row, after one more action is probed for
   pub more_lanes : (missing a : ℕ) → HasLanes lanes x (could_be_by A L a) missing → ((lane : ℕ) → lane < lanes → is_on lost lane ≡ (is_on left lane && is_justified A (is_listed A L) (x * lanes + lane) (Act a))) →
       HasLanes lanes x (could_be_by A L (a + 1)) (bit_or missing lost)
   more_lanes missing a so_far here = record {
@@ -56,7 +56,7 @@ module _ (A : Arena ℕ) (lanes : ℕ) (words : List ℕ) where
   Unlisted L = AreRows lanes (λ p. not (is_listed A L p)) words
 
   module _ (x word : ℕ) (so_far : NoneMissing A lanes words (x * lanes)) (has : (L : List (Entry ℕ)) → Unlisted L → HasLanes lanes x (could_be_listed A L) word) where
-    -- no pair before a lane of the row is missing, where the word has no bit before it
+    -- if the word has no bit before a lane, no pair of the row before that lane is missing
     before_lane : (lane : ℕ) → lane ≤ lanes → ((i : ℕ) → i < lane → is_on word i ≡ false) → NoneMissing A lanes words (x * lanes + lane)
     before_lane lane few off = record {
       none = λ L rows q l. elim (cases_lt q (x * lanes)) [

@@ -8,13 +8,13 @@ at_end mid None into n gave ends none = tt
 at_end None (Some new) into n gave ends none = absurd gave
 at_end (Some old) (Some new) into n gave ends none = sym (gave ∙ ap (λ m. take m into ++ new) none) ∙ ends.0 none
 
--- what is taken after the limit is at most one piece
+-- after the limit at most one piece is taken
 pub gave_within : (before mid now : Option (List ℕ)) (taken into : List ℕ) (count room : ℕ) → Gave before mid taken → Gave mid now (take count into) → count ≤ length into → length into ≡ 4096 → room + length taken ≡ MAX_CERTIFICATE_BYTES → GaveAtMost 268439552 before now
 gave_within before mid now taken into count room first second bound piece left = gave_at_most 268439552 before mid now taken (take count into) first second (omega (arith, length-take-le count into bound))
 
--- Where the source fails
+-- A source that fails
 
--- the whole lines of what is read are clean
+-- the whole lines that are read are clean
 ended_text : (A : Arena ℕ) (taken : List ℕ) (reader : Reader) (r : IsReading A taken reader) → ended_lines taken ≡ r.text
 ended_text A taken reader r =
     ap ended_lines r.split.is ∙ ended_lines-text r.text r.partial r.split.whole ∙ ap (λ ls. r.text ++ ls) (ended_lines_last r.partial r.unended) ∙ append-nil r.text
@@ -28,12 +28,12 @@ failed_clean A before mid now taken reader r first second = record {
 
 -- Pieces
 
--- what was read of a piece: of the first `due` bytes that were taken into `into`
+-- the part of a piece that was read, of the first `due` bytes that were taken into `into`
 pub first_part : (A : Arena ℕ) (lanes : ℕ) (old new : Reader) (into taken : List ℕ) (due to : ℕ) (fault : Option Why) → ReadsPart A lanes old new (take due into) 0 to fault → IsReading A taken old → HasReached A (taken ++ take to into) new fault
 first_part A lanes old new into taken due to fault part r =
     subst (λ bs. HasReached A (taken ++ bs) new fault) (take-take to due into (omega (arith, part.high, length-take due into))) (part.reads taken (subst (λ bs. IsReading A bs old) (sym (append-nil taken)) r))
 
--- the bytes taken so far were read; then `count` bytes were taken into `into`, and those before a place were read; the verdict on what was read stays that on all bytes
+-- the bytes taken so far were read; then `count` bytes were taken into `into`, and those before a place were read; the verdict on the bytes that were read is that on all bytes
 pub told : (A : Arena ℕ) (start : ℕ) (before mid now : Option (List ℕ)) (taken into : List ℕ) (count to : ℕ) (verdict : text.Verdict) → Gave before mid taken → Gave mid now (take count into) → to ≤ count → count ≤ length into →
     ((more : List ℕ) → length (taken ++ take to into) ≡ length taken + to → count ≤ to + length more → cert_verdict A start ((taken ++ take to into) ++ more) ≡ verdict) → HaveVerdict A start before verdict
 told A start before mid now taken into count to verdict first second low bound judged =

@@ -33,7 +33,7 @@ pub record IsInRows (lanes pairs : ℕ) (left : Remaining) : Type 0 where
 abbrev pub IsTableOf : Arena ℕ → ℕ → Remaining → Type 0
 IsTableOf A lanes left = IsInRows lanes (length A.nodes) left
 
--- the row that was probed last, which is one of the table
+-- the front is the row that was probed last, and is a row of the table
 pub record IsFront (audit : Audit) (front : Front) : Type 0 where
   pub inside : front.row < length audit.left.words.items
   pub row : front.row ≡ audit.probe.row
@@ -41,12 +41,12 @@ pub record IsFront (audit : Audit) (front : Front) : Type 0 where
   pub lanes : front.lanes ≡ audit.left.lanes
   pub known : front.known ≡ audit.probe.lanes
 
--- where the stored answer of a row is right, the result is whether the reason holds at the pair with the table's pairs left, and the new stored answer is right
+-- if the stored result of a probe is right, the returned result is whether the reason holds at the pair with the table's pairs left, and the new stored result is right
 pub record AnswersReason (A : Arena ℕ) (left : Remaining) (p : ℕ) (reason : Reason) (old new : RowProbe) (result : Bool) : Type 0 where
   pub justified : (gone : ℕ → Bool) → AreRows left.lanes (λ q. not (gone q)) left.words.items → HoldsWhereKnown A left.lanes gone old → result ≡ is_justified A gone p reason
   pub known : (gone : ℕ → Bool) → AreRows left.lanes (λ q. not (gone q)) left.words.items → HoldsWhereKnown A left.lanes gone old → HoldsWhereKnown A left.lanes gone new
 
--- this holds of the pair at a row and a lane of the table
+-- the result for the pair at a row and a lane of the table is right
 abbrev pub AnswersAt : Arena ℕ → Remaining → ℕ × ℕ → Reason → RowProbe → RowProbe → Bool → Type 0
 AnswersAt A left place reason old new result = AnswersReason A left (place.0 * left.lanes + place.1) reason old new result
 
@@ -58,7 +58,7 @@ pub record CanProbeAt (A : Arena ℕ) (width : ℕ) (left : Remaining) (place : 
   pub lane : place.1 < left.lanes
   pub reason : IsReasonOf A why
 
--- the table has the pairs that the list doesn't name, and the stored answer of a row is right
+-- the table has the pairs that the list doesn't name, and the stored result of a probe is right
 pub record HasListed (A : Arena ℕ) (L : List (Entry ℕ)) (left : Remaining) (probe : RowProbe) : Type 0 where
   pub remain : Remain (length A.nodes) (is_listed A L) left
   pub known : HoldsWhereKnown A left.lanes (is_listed A L) probe

@@ -1,4 +1,4 @@
--- What the result of a check states about its source.
+-- The facts that the result of a check states about its source.
 use Rattle.std.specs.Prelude.{◌≡◌, ℕ, List, [], length, Option, Result, Ok, Err}
 use Rattle.roman_io.specs.Faults.{Rose}
 use Rattle.roman_io.specs.Source.{Gave, Had}
@@ -29,13 +29,13 @@ abbrev pub SaysGreatest : Verdict → Type 0
 SaysGreatest (Greatest related start) = Unit {0}
 SaysGreatest (Rejected line why) = ⊥
 
--- what each answer states about the source's bytes before and now, and about its count of faults before and now
+-- what each result states about the source's bytes before and now, and about its count of faults before and now
 abbrev pub IsComing : Arena ℕ → ℕ → Option (List ℕ) → Option (List ℕ) → ℕ → ℕ → Result Verdict CheckError → Type 0
 IsComing A start before now old new (Ok verdict) = HaveVerdict A start before (verdict_of verdict) × (new ≡ old)
 IsComing A start before now old new (Err Fault) = NoneAtFault A before now × Rose old new
 IsComing A start before now old new (Err TooLong) = HaveVerdict A start before text.TooLong × (new ≡ old)
 IsComing A start before now old new (Err Memory) = ⊥
 
--- the answer of a check is right about the source
+-- the result of a check is right about the source
 pub record Comes (A : Arena ℕ) (start : ℕ) (before now : Option (List ℕ)) (old new : ℕ) (answer : Result Verdict CheckError) : Type 0 where
   pub is : IsComing A start before now old new answer

@@ -10,7 +10,7 @@ pub record Holds (line : Line) (bytes : List ℕ) : Type 0 where
   pub fits : length bytes ≤ ROOM → (line.len ≡ length bytes) × (take (length bytes) line.bytes ≡ bytes)
   pub over : ROOM < length bytes → line.len ≡ ROOM + 1
 
--- the text begins with a number, two bytes, a space, a reason and a newline, divided as the shape says
+-- the text begins with a number, two bytes, a space, a reason and a newline, divided by the shape
 pub record IsPattern (text : List ℕ) (s : Shape) : Type 0 where
   pub front : ℕ
   pub some : 0 < front

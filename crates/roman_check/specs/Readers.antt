@@ -1,4 +1,4 @@
--- What is known of the part of a text that was read.
+-- The part of a text that was read.
 use Rattle.std.specs.Prelude.{◌≡◌, ℕ, ◌+◌, ◌≤◌, List, [], ◌∷◌, ◌++◌, length, take, Option, None, Some}
 use Rattle.roman_model.specs.Lines.{lines, text_of_lines, IsLine, AreLines}
 use Rattle.roman_model.specs.Arena.{Arena}
@@ -19,7 +19,7 @@ pub record HasLines (A : Arena ℕ) (text : List (List ℕ)) (reader : Reader) :
   pub read : HasRead A text reader.audit
   pub counted : reader.lines ≡ length text
 
--- the bytes are these lines with their newlines, and these bytes behind them
+-- the bytes are these lines with their newlines, and these bytes after them
 pub record SplitsAfter (bytes : List ℕ) (text : List (List ℕ)) (more : List ℕ) : Type 0 where
   pub is : bytes ≡ text_of_lines text ++ more
   pub whole : AreLines text
@@ -53,7 +53,7 @@ abbrev pub HasReached : Arena ℕ → List ℕ → Reader → Option Why → Typ
 HasReached A bytes reader None = IsReading A bytes reader
 HasReached A bytes reader (Some why) = IsAtFault A bytes reader.lines why
 
--- where the piece was read to the first place, it is read to the second, or the line that ends there is at fault; the table keeps its rows
+-- if the piece was read to the first place, it is read to the second, or the line that ends there is at fault; the table keeps its rows
 pub record ReadsPart (A : Arena ℕ) (lanes : ℕ) (old new : Reader) (piece : List ℕ) (from to : ℕ) (fault : Option Why) : Type 0 where
   pub low : from ≤ to
   pub high : to ≤ length piece
@@ -67,12 +67,12 @@ pub record ReadsPiece (A : Arena ℕ) (lanes : ℕ) (old new : Reader) (piece : 
   pub read : ReadsPart A lanes old new piece 0 to fault
   pub whole : fault ≡ None → to ≡ length piece
 
--- 1 where there is no fault, and 0 otherwise
+-- 1 if there is no fault, and 0 otherwise
 abbrev pub one_if_clean : Option Why → ℕ
 one_if_clean None = 1
 one_if_clean (Some why) = 0
 
--- the line that the buffered bytes and the last bytes make up is judged, and the next one begins where it has no fault
+-- the line that consists of the buffered bytes and the last bytes is judged, and the next one begins if it has no fault
 pub record EndsLine (A : Arena ℕ) (lanes : ℕ) (old new : Reader) (last : List ℕ) (fault : Option Why) : Type 0 where
   pub judged : (bytes : List ℕ) → Holds old.line bytes → Judges A old.audit new.audit (bytes ++ last) fault
   pub shaped : IsInRows lanes (length A.nodes) new.audit.left

@@ -28,6 +28,6 @@ pub record Clears (old new lane : ℕ) : Type 0 where
 abbrev pub could_be_by : Arena ℕ → List (Entry ℕ) → ℕ → ℕ → Bool
 could_be_by A L actions p = not (is_listed A L p) && list_any (is_justified A (is_listed A L) p) (reasons actions)
 
--- no pair before this number is missing from a list where the words have the bits of the other pairs
+-- no pair before this number is missing from a list whose unlisted pairs have their bits in the words
 pub record NoneMissing (A : Arena ℕ) (lanes : ℕ) (words : List ℕ) (bound : ℕ) : Type 0 where
   pub none : (L : List (Entry ℕ)) → AreRows lanes (λ p. not (is_listed A L p)) words → (p : ℕ) → p < bound → could_be_listed A L p ≡ false

@@ -1,4 +1,4 @@
--- The answers of the checker as those of the certificate format.
+-- The results of the checker as those of the certificate format.
 use Rattle.std.specs.Prelude.{ℕ}
 use Rattle.roman_model.specs.Certificate as text
 use Rattle.roman_check.specs.declared.verdict.Why.{Why}

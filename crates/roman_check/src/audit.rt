@@ -46,12 +46,12 @@ pub(crate) struct Audit {
     pub(crate) due: Due,
     // the pairs that no entry names
     pub(crate) left: Remaining,
-    // the last answer of a row about the reason of an entry
+    // the result of the last probe of a row for an entry's reason
     pub(crate) probe: RowProbe,
 }
 
-/// Probes a row: finds whether a reason holds at one of its lanes, where the pairs `left` remain. `place` is the
-/// row and the lane.
+/// Probes a row: finds whether a reason holds at one of its lanes, when the pairs `left` remain.
+/// `place` is the row and the lane.
 #[cold]
 #[inline(never)]
 fn probe_row<J: Rules, L: Ledger>(
@@ -72,8 +72,8 @@ fn probe_row<J: Rules, L: Ledger>(
     )
 }
 
-/// Returns whether a reason holds at a pair, where the pairs `left` remain. `place` is the row and the
-/// lane of the pair. Probes no row where the answer is known.
+/// Returns whether a reason holds at a pair, when the pairs `left` remain. `place` is the row and
+/// the lane of the pair. Probes no row if the result is known.
 #[inline(always)]
 fn holds<J: Rules, L: Ledger>(
     probe: &mut RowProbe,
@@ -107,8 +107,8 @@ impl Audit {
         })
     }
 
-    /// Judges one of the first two lines. Returns the fault `Form` where it isn't the line that is due,
-    /// and makes `next` due otherwise.
+    /// Judges one of the first two lines. If it isn't the line that is due, returns the fault
+    /// `Form`. Otherwise makes `next` due.
     fn judge_opening(&mut self, is_due: bool, next: Due) -> Option<Why>
         ensures fault { result ≡ (if is_due then None else Some Why.Form) }
         ensures read { result ≡ None → self.new.due ≡ next }
@@ -121,8 +121,8 @@ impl Audit {
         None
     }
 
-    /// Judges the entry of a pair and a reason. Removes the pair from `left` where the entry has no
-    /// fault, and returns the fault otherwise.
+    /// Judges the entry of a pair and a reason. If it has no fault, removes the pair from `left`.
+    /// Otherwise returns the fault.
     #[inline(always)]
     #[tactic(auto, using(crate::proofs::AuditLemmas::pair_within))]
     pub(crate) fn take_entry<J: Rules, L: Ledger>(
@@ -138,7 +138,7 @@ impl Audit {
         ensures { TakesEntry (J.arena joint.now) (J.lanes joint.now) self.old self.new
             (entry_with (pair, reason)) result }
     {
-        joint.known(); // pairs are told apart by their numbers
+        joint.known(); // no two pairs have the same number
         let (row, lane) = self.left.place(self.probe.row, pair);
         if !self.left.has(row, lane) {
             return Some(Why::Repeated);
@@ -151,7 +151,7 @@ impl Audit {
         None
     }
 
-    /// Returns the row that was probed last, or `None` where the table has no such row.
+    /// Returns the row that was probed last, or `None` if the table has no such row.
     pub(crate) fn front(&self) -> Option<Front>
         ensures { IfSome result (IsFront self.now) }
     {
@@ -167,8 +167,8 @@ impl Audit {
         })
     }
 
-    /// Removes a pair that remains, if it lies in the row that was probed last and the reason probed
-    /// about is known to hold there. Returns whether it did, and changes nothing otherwise.
+    /// Removes a pair that remains, if it lies in the row that was probed last and the reason of
+    /// that probe is known to hold there. Returns whether it did, and changes nothing otherwise.
     #[inline(always)]
     pub(crate) fn take_known<J: Rules>(&mut self, joint: &J, front: Front, pair: u64) -> bool
         requires shaped { IsTableOf (J.arena joint.now) (J.lanes joint.now) self.old.left }
@@ -179,7 +179,7 @@ impl Audit {
         ensures untaken { result ≡ false → self.new ≡ self.old }
         ensures probe { self.new.probe ≡ self.old.probe }
     {
-        joint.known(); // pairs are told apart by their numbers
+        joint.known(); // no two pairs have the same number
         let Some(lane) = lane_from(front.first, front.lanes, pair) else {
             return false;
         };
@@ -202,7 +202,7 @@ impl Audit {
         ensures judged { Judges (J.arena joint.now) self.old self.new line.now result }
         ensures shaped { IsTableOf (J.arena joint.now) (J.lanes joint.now) self.new.left }
     {
-        joint.known(); // a pair's number fits 32 bits
+        joint.known(); // a pair's number fits in 32 bits
         if !is_end(line) {
             return match entry(line, joint.pairs(), joint.actions()) {
                 Some((pair, reason)) => self.take_entry(joint, pair, reason, steps),
@@ -216,7 +216,8 @@ impl Audit {
         }
     }
 
-    /// Judges the next line. Reads it where it has no fault, and returns the fault otherwise.
+    /// Judges the next line. If it has no fault, adds it to the lines read. Otherwise returns the
+    /// fault.
     #[tactic(auto, using(crate::proofs::AuditLemmas::judged_head, crate::proofs::AuditLemmas::judged_count, crate::proofs::AuditLemmas::judged_after_end))]
     pub(crate) fn judge<J: Rules, L: Ledger>(
         &mut self,

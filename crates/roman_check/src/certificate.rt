@@ -55,19 +55,19 @@ fn read<J: Rules, S: Source, L: Ledger>(
     }
 }
 
-/// Checks a certificate against a system. `start` is the number of the start pair. The verdict says
-/// whether the text is the certificate of a complete removal list, and if so how many pairs are
-/// related.
+/// Checks a certificate against a system. `start` is the number of the start pair. The verdict
+/// states whether the text is the certificate of a complete removal list. If it is, the verdict has
+/// the number of related pairs, and whether the start pair is related.
 ///
-/// Takes the text in pieces of at most 4,096 bytes, and judges it line by line. Takes no piece after
-/// the one in which the first line at fault ends. Allocates one word for each row of pairs at the
-/// start, and no other memory. Fails with `Fault` only where the source's count of faults rose; no line
-/// read whole is then at fault. Fails with `TooLong` exactly where the source gave more than
-/// 268,435,456 bytes, and no line that ends within them is at fault. Fails with `Memory` only when out
-/// of memory; nothing was then taken from the source.
+/// Takes the text in pieces of at most 4,096 bytes, and judges it line by line. Takes no piece
+/// after the one in which the first line at fault ends. Allocates one word for each row of pairs at
+/// the start, and no other memory. Fails with `Fault` only if the source's count of faults rose; no
+/// line read whole is then at fault. Fails with `TooLong` exactly if the source gave more than
+/// 268,435,456 bytes, and no line that ends within them is at fault. Fails with `Memory` only when
+/// out of memory; nothing was then taken from the source.
 ///
-/// Where the source's contract doesn't state its bytes, the clauses speak of some bytes that the source
-/// could have had.
+/// If the contract of the source doesn't state its bytes, the clauses are about some bytes that the
+/// source could have had.
 pub fn check<J: Rules, S: Source, L: Ledger>(
     alloc: Global,
     joint: &J,
@@ -84,7 +84,7 @@ pub fn check<J: Rules, S: Source, L: Ledger>(
         (S.rest source.old) TooLong }
     ensures whole { IfOk result (λ verdict. SaysGreatest verdict → IsAtEnd (S.rest source.new)) }
 
-    // `Fault` follows only a failure of the source, and no whole line before it is at fault.
+    // The error is `Fault` only if the source failed, and no whole line before that is at fault.
     ensures fault { IsErrOf result CheckError.Fault → Rose (S.faults source.old) (S.faults source.new) }
     ensures none_at_fault { IsErrOf result CheckError.Fault →
         NoneAtFault (J.arena joint.now) (S.rest source.old) (S.rest source.new) }

@@ -44,7 +44,7 @@ fn is_final(text: &[u8]) -> bool
     text == b"f".as_slice()
 }
 
-/// Returns the reason with this text, or `None` where there is none for `actions` actions.
+/// Returns the reason with this text, or `None` if no reason of `actions` actions has it.
 #[tactic(auto, using(crate::proofs::EntryLemmas::action_text))]
 fn reason(text: &[u8], actions: u8) -> Option<Reason>
     ensures { ReadsOff (reasons actions) reason_text text.now result }
@@ -56,7 +56,8 @@ fn reason(text: &[u8], actions: u8) -> Option<Reason>
     Some(Reason::Act(action as u8))
 }
 
-/// Returns the entry on the line, or `None` where it is no entry for this number of pairs and actions.
+/// Returns the entry on the line, or `None` if it has no entry for these numbers of pairs and
+/// actions.
 pub(crate) fn entry(line: &[u8], pairs: u32, actions: u8) -> Option<(u32, Reason)>
     ensures { option_map entry_with result ≡ entry_of pairs actions line.now }
 {
@@ -66,7 +67,8 @@ pub(crate) fn entry(line: &[u8], pairs: u32, actions: u8) -> Option<(u32, Reason
     Some((pair, reason))
 }
 
-/// Returns the reason with this byte as its text, or `None` where there is none for `actions` actions.
+/// Returns the reason with this byte as its text, or `None` if no reason of `actions` actions has
+/// it.
 #[inline]
 fn reason_of(byte: u8, actions: u8) -> Option<Reason>
     ensures { IfSome result (λ reason. IsIn reason (reasons actions) × (reason_text reason ≡ byte ∷ [])) }

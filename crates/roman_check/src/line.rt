@@ -5,16 +5,16 @@ ghost use Rattle.roman_check.specs.Lines.{Holds};
 /// The capacity of a line in bytes. Each line without a fault is shorter.
 pub(crate) const ROOM: usize = 32;
 
-/// The bytes of a line so far. Beyond [`ROOM`] bytes, only the fact that the line is too long is kept.
+/// The bytes of a line so far. Of a longer line than [`ROOM`] bytes, only the fact that it is too
+/// long is stored.
 #[derive(Drop)]
 pub(crate) struct Line {
     pub(crate) bytes: [u8; ROOM],
-    // the number of bytes, or `ROOM + 1` where they don't fit
+    // the number of bytes, or `ROOM + 1` if they don't fit
     pub(crate) len: usize,
 }
 
 impl Line {
-    /// Returns a line without bytes.
     pub(crate) fn new() -> Line
         ensures { Holds result [] }
     {
@@ -24,7 +24,6 @@ impl Line {
         }
     }
 
-    /// Appends bytes.
     pub(crate) fn extend(&mut self, more: &[u8])
         ensures { (bytes : List ℕ) → Holds self.old bytes → Holds self.new (bytes ++ more.now) }
     {
@@ -37,21 +36,19 @@ impl Line {
         self.len = end;
     }
 
-    /// Removes all bytes.
     pub(crate) fn clear(&mut self)
         ensures { Holds self.new [] }
     {
         self.len = 0;
     }
 
-    /// Returns whether the line has no bytes.
     pub(crate) fn is_empty(&self) -> bool
         ensures { IsTrue result ↔ Holds self.now [] }
     {
         self.len == 0
     }
 
-    /// Returns the bytes, or `None` where there are more than [`ROOM`].
+    /// Returns the bytes, or `None` if there are more than [`ROOM`].
     pub(crate) fn text(&self) -> Option<&[u8]>
         ensures { (bytes : List ℕ) → Holds self.now bytes → MatchOption result (ROOM < length bytes)
             (λ text. text.now ≡ bytes) }

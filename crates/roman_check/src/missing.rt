@@ -26,7 +26,7 @@ fn missing_in<J: Rules>(joint: &J, words: &[u64], x: u32) -> u64
     missing
 }
 
-/// Returns false only where no pair of the band `y` is missing. `words` has the bits of the pairs that
+/// Returns false only if no pair of the band `y` is missing. `words` has the bits of the pairs that
 /// aren't listed. `left` is working space for the rows of one band.
 fn misses_some<J: Rules>(joint: &J, words: &[u64], y: u32, resting: u64, left: &mut [u64]) -> bool
     requires resting { J.is_resting joint.now resting }
@@ -79,15 +79,15 @@ fn rows_before<J: Rules>(joint: &J, words: &[u64]) -> u32
     joint.rows()
 }
 
-/// Returns the least missing pair: it isn't listed, and a reason holds at it. `words` has the bits of
-/// the pairs that aren't listed. Returns `None` where no pair is missing.
+/// Returns the least missing pair: it isn't listed, and a reason holds at it. `words` has the bits
+/// of the pairs that aren't listed. Returns `None` if no pair is missing.
 pub(crate) fn first_missing<J: Rules>(joint: &J, words: &[u64]) -> Option<u32>
     requires { length words.now * J.lanes joint.now ≡ length (J.arena joint.now).nodes }
     ensures { let A = J.arena joint.now in
         (L : List (Entry ℕ)) → AreRows (J.lanes joint.now) (λ p. not (is_listed A L p)) words.now →
         result ≡ find (could_be_listed A L) A.nodes }
 {
-    joint.known(); // a pair's number fits 32 bits, a row has 1 to 64 lanes
+    joint.known(); // a pair's number fits in 32 bits, a row has 1 to 64 lanes
     let lanes = joint.lanes();
     for x in rows_before(joint, words)..joint.rows() {
         let missing = missing_in(joint, words, x);

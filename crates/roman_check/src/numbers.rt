@@ -7,7 +7,7 @@ ghost use Rattle.roman_check.specs.Decimals.{IsTrim, IsNumberTo, HasDigits};
 /// The greatest number of digits that a `u32` has.
 const MOST_DIGITS: usize = 10;
 
-/// Returns the value of a digit, or more than 9 where the byte isn't a digit.
+/// Returns the value of a digit, or more than 9 if the byte isn't a digit.
 pub(crate) fn digit(byte: u8) -> u64
     ensures digit { result ≤ 9 → IsInRange 48 57 byte × (result ≡ byte - 48) }
     ensures other { 9 < result → IsOutOfRange 48 57 byte }
@@ -35,7 +35,7 @@ fn front_digits(bytes: &[u8]) -> (u64, usize)
 }
 
 /// Reads the digits at the start of the bytes, up to the byte `stop`. Returns their value, leading
-/// zeros included, and how many they are. Returns `None` exactly where the bytes don't begin with at
+/// zeros included, and how many they are. Returns `None` exactly if the bytes don't begin with at
 /// most ten digits followed by `stop`.
 #[inline]
 pub(crate) fn number_to(bytes: &[u8], stop: u8) -> Option<(u64, usize)>
@@ -61,7 +61,7 @@ fn is_trim(text: &[u8]) -> bool
     !text.is_empty() && text.len() <= MOST_DIGITS && (text[0] != b'0' || text.len() == 1)
 }
 
-/// Returns the number below the bound that has this decimal text, or `None` where there is none.
+/// Returns the number below the bound that has this decimal text, or `None` if no number has it.
 /// Requires a text of digits with the value `value`.
 #[tactic(auto, using(crate::proofs::DigitLemmas::decimal_shape, crate::proofs::DigitLemmas::no_small_number, crate::proofs::DigitLemmas::decimal_from_digits))]
 pub(crate) fn trim_below(value: u64, text: &[u8], bound: u32) -> Option<u32>
@@ -77,7 +77,7 @@ pub(crate) fn trim_below(value: u64, text: &[u8], bound: u32) -> Option<u32>
     Some(value as u32)
 }
 
-/// Returns the number below the bound that has this decimal text, or `None` where there is none.
+/// Returns the number below the bound that has this decimal text, or `None` if no number has it.
 #[tactic(auto, using(crate::proofs::DigitLemmas::no_decimal, crate::proofs::DigitLemmas::digits_of_all))]
 pub(crate) fn number_below(text: &[u8], bound: u32) -> Option<u32>
     ensures { MatchOption result

@@ -86,7 +86,7 @@ impl Shape {
         words_alike(text, bytes) && words_alike(&text[last..], &bytes[last..])
     }
 
-    /// Returns the pair of the first line of the bytes, where that line differs from the text at most
+    /// Returns the pair of the first line of the bytes if that line differs from the text at most
     /// in the last two digits of the pair. Sets the digits of the text to those of the bytes.
     #[inline(always)]
     pub(crate) fn fit(self, text: &mut [u8; WIDTH], bytes: &[u8]) -> Option<u64>
@@ -132,9 +132,9 @@ impl Pattern {
         }
     }
 
-    /// Makes the first line of the bytes the pattern. Changes nothing where the pair has fewer than
-    /// three digits or the line is too long. Requires that the line is the entry of the pair and the
-    /// reason, has `len` bytes, and has its space at place `space`.
+    /// Makes the first line of the bytes the pattern. Changes nothing if the pair has fewer than
+    /// three digits or the line is too long. Requires that the line is the entry of the pair and
+    /// the reason, has `len` bytes, and has its space at place `space`.
     #[tactic(auto, using(crate::proofs::PatternLemmas::large_number))]
     fn learn(&mut self, bytes: &[u8], pair: u32, reason: Reason, space: usize, len: usize)
         requires pattern { IsPattern self.old.text self.old.shape }
@@ -157,7 +157,7 @@ impl Pattern {
     }
 
     /// Reads the first line of the bytes without the pattern. Returns its entry and its length, and
-    /// makes it the pattern where it fits. May return `None` for a valid entry.
+    /// makes it the pattern if it fits. May return `None` for a valid entry.
     #[inline(never)]
     fn read_anew(&mut self, bytes: &[u8], pairs: u32, actions: u8) -> Option<EntryLine>
         requires pattern { IsPattern self.old.text self.old.shape }
@@ -171,8 +171,8 @@ impl Pattern {
         Some((pair, reason, len))
     }
 
-    /// Reads the first line of the bytes. Returns its entry and its length, and makes it the pattern
-    /// where it fits. May return `None` for a valid entry.
+    /// Reads the first line of the bytes. Returns its entry and its length, and makes it the
+    /// pattern if it fits. May return `None` for a valid entry.
     #[inline(always)]
     pub(crate) fn read(&mut self, bytes: &[u8], pairs: u32, actions: u8) -> Option<EntryLine>
         requires pattern { IsPattern self.old.text self.old.shape }

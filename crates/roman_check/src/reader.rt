@@ -50,7 +50,7 @@ impl Reader {
         })
     }
 
-    /// Judges the line that the buffered bytes and the bytes `last` make up.
+    /// Judges the line that consists of the buffered bytes and the bytes `last`.
     #[tactic(auto, using(crate::proofs::ReaderLemmas::alone))]
     fn judge<J: Rules, L: Ledger>(
         &mut self,
@@ -64,7 +64,7 @@ impl Reader {
         ensures shaped { IsTableOf (J.arena joint.now) (J.lanes joint.now) self.new.audit.left }
         ensures lines { self.new.lines ≡ self.old.lines }
     {
-        joint.known(); // a pair's number fits 32 bits
+        joint.known(); // a pair's number fits in 32 bits
         if self.line.is_empty() {
             return self.audit.judge(joint, last, steps);
         }
@@ -112,7 +112,7 @@ impl Reader {
         ensures read { ReadsPart (J.arena joint.now) (J.lanes joint.now) self.old self.new piece.now from result None }
         ensures between { IsBetween self.new }
     {
-        joint.known(); // a pair's number fits 32 bits
+        joint.known(); // a pair's number fits in 32 bits
         let mut start = from;
         let (mut text, shape) = (pattern.text, pattern.shape);
         if shape.reason != self.audit.probe.reason {
@@ -152,7 +152,7 @@ impl Reader {
         ensures fault { IfErr result (λ why. (to : ℕ) × ReadsPart (J.arena joint.now)
             (J.lanes joint.now) self.old self.new piece.now from to (Some why)) }
     {
-        joint.known(); // a pair's number fits 32 bits
+        joint.known(); // a pair's number fits in 32 bits
         let mut start = from;
         let Due::Body = self.audit.due else {
             return Ok(start);
@@ -203,7 +203,7 @@ impl Reader {
         }
     }
 
-    /// Reads the last line where its newline is missing. Returns its fault, if it has one.
+    /// Reads the last line if its newline is missing. Returns its fault, if it has one.
     #[tactic(auto, using(crate::proofs::ReaderLemmas::closed_line))]
     fn close<J: Rules, L: Ledger>(&mut self, joint: &J, steps: &mut Steps<L>) -> Option<Why>
         requires shaped { IsTableOf (J.arena joint.now) (J.lanes joint.now) self.old.audit.left }
@@ -218,7 +218,7 @@ impl Reader {
         self.end_line(joint, &[], steps)
     }
 
-    /// Returns the verdict where all lines were read and none is at fault. It rejects the text where
+    /// Returns the verdict when all lines were read and none is at fault. It rejects the text if
     /// the line `end` is missing.
     fn conclude(&self, start: u32) -> Verdict
         requires start { start < length self.now.audit.left.words.items * self.now.audit.left.lanes }

@@ -24,8 +24,8 @@ fn without_lane(word: u64, lane: u32) -> u64
     word & !(1 << lane)
 }
 
-/// Returns the lane of the pair `p` in the row of `lanes` pairs that begins with the pair `first`, or
-/// `None` where `p` doesn't lie in it.
+/// Returns the lane of the pair `p` in the row of `lanes` pairs that begins with the pair `first`,
+/// or `None` if `p` doesn't lie in it.
 #[inline(always)]
 pub(crate) fn lane_from(first: u64, lanes: u32, p: u64) -> Option<u32>
     requires { first < 9223372036854775808 }
@@ -59,7 +59,7 @@ impl Remaining {
         })
     }
 
-    /// Returns the lane of the pair `p`, or `None` where `p` doesn't lie in the row.
+    /// Returns the lane of the pair `p`, or `None` if `p` doesn't lie in the row.
     fn lane_in(&self, row: u32, p: u32) -> Option<u32>
         ensures { IfSome result (λ lane. (row * self.now.lanes + lane ≡ p) × (lane < self.now.lanes)) }
     {
@@ -100,7 +100,7 @@ impl Remaining {
         has_lane(known & self.words[row as usize], lane)
     }
 
-    /// Removes the pair at this row and lane. The table stays right only where the pair remained
+    /// Removes the pair at this row and lane. The table stays right only if the pair remained
     /// before.
     pub(crate) fn remove(&mut self, row: u32, lane: u32)
         requires row { row < length self.old.words.items }

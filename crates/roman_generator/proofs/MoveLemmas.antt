@@ -10,17 +10,17 @@ pub ready_seat : (o : Option Seat) → IsTrue (is_ready o) → (seat : Seat) × 
 ready_seat None h = cc
 ready_seat (Some seat) h = (seat, refl, not-true seat.frozen h)
 
--- a system step goes to the state that is seen
+-- a system step goes to the observed state
 to_seen : (s : Sys) (p : Pair) (a k b e : ℕ) → IsPair s p → (step : CanMove s p a k b e) → step.to ≡ b
 to_seen s p a k b e pair step =
     let within : k < length p.bs = omega (arith, states_long s p pair, slice_get_within s.seats k step.seat step.seated) in
     sym (get_or-set_same p.bs k step.to 0 within) ∙ ap (λ (bs : List ℕ). slice_index bs k) (sym step.is) ∙ get_or-set_same p.bs k b 0 within
 
--- where the environment has no step, no system step leads to the states that are seen
+-- if the environment has no step, no system step leads to the observed states
 pub env_stays : (s : Sys) (t e b : ℕ) (x : Observation) (p : Pair) → IsSys s → IsFalse (has (env_next s.env e x.action) x.env) → IsBefore s t e b x p → CanMove s p x.action x.seat x.state x.env → ⊥
 env_stays s t e b x p ok out before step = grind (arith, both_ways, in_env_next, listed_number)
 
--- where the service has no step, none does
+-- if the service has no step, no system step leads to the observed states
 pub seat_stays : (s : Sys) (t e b : ℕ) (x : Observation) (p : Pair) (seat : Seat) → IsSys s → slice_get s.seats x.seat ≡ Some seat → IsFalse (has (beh_next seat.beh b e x.action) x.state) → IsBefore s t e b x p →
     CanMove s p x.action x.seat x.state x.env → ⊥
 seat_stays s t e b x p seat ok seated out before step =
@@ -29,18 +29,18 @@ seat_stays s t e b x p seat ok seated out before step =
     both_ways (has (beh_next seat.beh b e x.action) x.state) out
     (listed_number (beh_next seat.beh b e x.action) x.state (in_beh_next s.env seat.beh b e x.action x.state (ok.seats seat (get_in s.seats x.seat seat seated)) moves))
 
--- where both have a step, a system step leads to the states that are seen
+-- if the environment and the service have a step, a system step leads to the observed states
 pub can_move : (s : Sys) (t e b : ℕ) (x : Observation) (p : Pair) (seat : Seat) → slice_get s.seats x.seat ≡ Some seat → IsTrue (is_ready (slice_get s.seats x.seat)) →
     IsTrue (has (env_next s.env e x.action) x.env) → IsTrue (has (beh_next seat.beh b e x.action) x.state) → IsBefore s t e b x p → CanMove s p x.action x.seat x.state x.env
 can_move s t e b x p seat seated ready has_e has_b before = grind (arith, from_beh_next, from_env_next, number_listed, ready_seat, same_seat)
 
--- where the action is served, the target goes to the state that is looked up
+-- when the action is served, the target goes to the state that is looked up
 pub target_goes : (s : Sys) (p : Pair) (a k b e : ℕ) (o : Option ℕ) → CanMove s p a k b e →
     MatchOption o (beh_next s.target p.t p.e a ≡ []) (λ to. beh_next s.target p.t p.e a ≡ to ∷ []) → IfSome o (λ to. TStep s p.t p.e a to e × CanMove s p a k b e)
 target_goes s p a k b e None step next = tt
 target_goes s p a k b e (Some to) step next = ((step.world, from_beh_next s.target p.t p.e a to (subst (IsIn to) (sym next) (inl refl))), step)
 
--- where the action is allowed, the target has a next state
+-- if the action is allowed, the target has a next state
 pub target_there : (s : Sys) (t e a : ℕ) (o : Option ℕ) → IsSys s → Allows s t e a → MatchOption o (beh_next s.target t e a ≡ []) (λ to. beh_next s.target t e a ≡ to ∷ []) → IfNone o ⊥
 target_there s t e a None ok (to, e', step) next = subst (IsIn to) next (in_beh_next s.env s.target t e a to ok.target step.1)
 target_there s t e a (Some to) ok allowed next = tt
@@ -52,13 +52,13 @@ allowed_within s t e b x p ok before =
     let (from, env, action, there) = move_in_range s.env s.target p.t p.e x.action to ok.target step.1 in
     (subst (λ n. n < s.target.states) before.target from, subst (λ n. n < s.env.states) before.env env, action)
 
--- a service is seen in one of its states
+-- the observed state of a service is one of its states
 pub seen_within : (s : Sys) (p : Pair) (a k b e : ℕ) → IsSys s → IsPair s p → CanMove s p a k b e → b < slice_index (sizes_of s).seats k
 seen_within s p a k b e ok pair step =
     let within = (move_in_range s.env step.seat.beh (slice_index p.bs k) p.e a step.to (ok.seats step.seat (get_in s.seats k step.seat step.seated)) step.moves).3 in
     omega (arith, within, to_seen s p a k b e pair step, size_at s.seats k step.seat step.seated)
 
--- where the target and the system have a step, the pair moves
+-- a system step and a target step lead to the pair with the number q
 pub all_move : (s : Sys) (p a k b e to q : ℕ) → IsSys s → p < count (sizes_of s) → TStep s (pair_at (sizes_of s) p).t (pair_at (sizes_of s) p).e a to e → CanMove s (pair_at (sizes_of s) p) a k b e →
     q ≡ number (sizes_of s) (moved (pair_at (sizes_of s) p) to e k b) → q < count (sizes_of s) → Becomes s (pair_at (sizes_of s) p) a k b e q
 all_move s p a k b e to q ok l target system is below =

@@ -9,10 +9,10 @@ ghost use Rattle.roman_joint.specs.Pairs.{joint_pairs, joint_pair, joint_seat};
 use crate::observation::Observation;
 use roman_joint::Joint;
 
-/// Returns the number of the pair that follows the pair `p` where the service `k` serves the action
+/// Returns the number of the pair that follows the pair `p` when the service `k` serves the action
 /// `a` and goes to state `b2`, and the environment goes to state `e2`. Requires that the action is
 /// allowed at the pair, and that the service is ready. The two states can be any numbers: returns
-/// `None` exactly where no step of the system leads there. Takes no memory.
+/// `None` exactly if no step of the system leads there. Allocates no memory.
 pub fn next_pair(joint: &Joint, p: u32, a: u8, k: u8, b2: u8, e2: u8) -> Option<u32>
     requires pair { p < joint_pairs joint.now }
     requires allowed { IsTrue (is_allowed (system_of joint.now) (joint_pair joint.now p) a) }
@@ -35,10 +35,11 @@ pub fn next_pair(joint: &Joint, p: u32, a: u8, k: u8, b2: u8, e2: u8) -> Option<
     Some(shape.moved(p, to, e2, k, b2))
 }
 
-/// Returns the target's state after the action that `observation` describes. Before it, the target is in
-/// state `t`, the environment in state `e`, and the services are in the given states. Requires that
-/// the action is allowed there, and that its service is ready. The two states that are observed can be any
-/// numbers: returns `None` exactly where no step of the system leads there. Takes no memory.
+/// Returns the target's state after the action that `observation` describes. Before it, the target
+/// is in state `t`, the environment in state `e`, and the services are in the given states.
+/// Requires that the action is allowed there, and that its service is ready. The two states that
+/// are observed can be any numbers: returns `None` exactly if no step of the system leads there.
+/// Allocates no memory.
 pub fn next_target(
     joint: &Joint,
     t: u8,

@@ -12,9 +12,9 @@ use roman_relation::Relation;
 use roman_rules::SeatSet;
 
 /// Returns the services that can be offered for the action `a` at the pair `p`: the ready ones that
-/// have an outcome there, and only related outcomes. There is at least one. Requires a related pair at
-/// which the action is allowed, and a relation whose list is complete, as [`Relation::build`] and the
-/// repairs leave it. Takes no memory.
+/// have an outcome there, and only related outcomes. The set has at least one service. Requires a
+/// related pair at which the action is allowed, and a relation whose list is complete, as
+/// [`Relation::build`] and the repairs leave it. Allocates no memory.
 ///
 /// These are the offers of the orchestrator generator of De Giacomo, Patrizi and Sardina, "Automatic
 /// Behavior Composition Synthesis" (Artificial Intelligence 196, 2013).

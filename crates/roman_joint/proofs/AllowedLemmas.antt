@@ -5,17 +5,17 @@ use Rattle.roman_joint.proofs.ArenaFacts.{beaten_where}
 pub open_here : (s : Sys) (row : Row) (x a lane : ℕ) → IsRow s x row → lane < lanes_in s → is_allowed s (pair_at (sizes_of s) (x * lanes_in s + lane)) a ≡ is_open s row a
 open_here s row x a lane ok l = ap₂ (λ t e. not (is_empty (env_next s.env e a)) && not (is_empty (beh_next s.target t e a))) (ok.targets lane l) (ok.envs lane l)
 
--- where an action leads somewhere, it is allowed
+-- an action that leads somewhere is allowed
 pub target_move_open : (s : Sys) (row : Row) (a : ℕ) (target_move : TargetMove) → IsTargetMove s row a target_move → is_open s row a ≡ true
 target_move_open s row a target_move ok = grind arith
 
--- an action is a reason exactly where it is allowed and no seat serves it
+-- an action is a reason exactly if it is allowed and no seat serves it
 pub judged : (s : Sys) (row : Row) (x a lane : ℕ) (allowed : Bool) (gone : ℕ → Bool) → IsRow s x row → lane < lanes_in s → is_open s row a ≡ allowed →
     (allowed && all_below (is_beaten (numbered s) gone (x * lanes_in s + lane) a) (length s.seats)) ≡ is_justified (numbered s) gone (x * lanes_in s + lane) (Act a)
 judged s row x a lane allowed gone ok l is =
     sym (ap (λ b. b && all_below (is_beaten (numbered s) gone (x * lanes_in s + lane) a) (length s.seats)) (open_here s row x a lane ok l ∙ is))
 
--- where an action isn't allowed, no seat serves it
+-- no seat serves an action that isn't allowed
 pub unopened : (s : Sys) (row : Row) (x a k lane : ℕ) (gone : ℕ → Bool) → IsNumbered (numbered s) → IsRow s x row → lane < lanes_in s → is_open s row a ≡ false →
     is_beaten (numbered s) gone (x * lanes_in s + lane) a k ≡ true
 unopened s row x a k lane gone nodes ok l off =
@@ -25,7 +25,7 @@ unopened s row x a k lane gone nodes ok l off =
 pub and_nothing : (b c : Bool) → false ≡ c → false ≡ (b && c)
 and_nothing b c e = grind arith
 
--- where nothing is left after the first k, nothing is left after n
+-- if nothing is left after the first k numbers, nothing is left after n
 pub cut_off : (p : ℕ → Bool) (k n : ℕ) (wanted : Bool) → k ≤ n → (wanted && all_below p k) ≡ false → (wanted && all_below p n) ≡ false
 cut_off p k n false l e = refl
 cut_off p k n true l e = by_test (all_below p n) (λ t. absurd (both_ways (all_below p k) e (all_below_from p k (λ i m. all_below_at p n i t (omega arith))))) (λ f. f)

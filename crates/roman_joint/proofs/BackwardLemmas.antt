@@ -1,11 +1,11 @@
 -- The delegations that are found backwards are those that lead to the pair.
 use Rattle.roman_joint.proofs.Common.{HasNoRepeats-below, HasNoRepeats-filter, HasNoRepeats-flat_map, HasNoRepeats-map, from_back, from_beh_prev, from_below, from_env_prev, from_flat_map, from_map, from_outcome, in_back, in_beh_prev, in_below, in_env_prev, in_flat_map, in_map, move_in_range, numbered_is_arena, numbered_is_same, numbers_are_pairs, outcome_in, outcome_pair, get_in, states_set, triple_in_range, Bool, IsFalse, IsTrue, List, None, Option, Some, [], ap, arith, cond, false, length, map, refl, slice_get, slice_index, slice_set, subst, sym, true, ℕ, ◌-◌, ◌<◌, ◌∙◌, ◌≡◌, Delegation, back, Env, IsBeh, IsPair, IsSys, Pair, Seat, Sys, has_move, has_triple, HasNoRepeats, HoldsEachOnce, IsIn, below, beh_prev, env_prev, outcomes, count, number, numbered, pair_at, sizes_of, flat_map, from_action, from_all, from_env, from_seat, from_target, seat_prev, get_or-set_same, set-get_or, set-set, slice_get_within, states_long}
 
--- the delegation of a to the seat at k, from t, e and the seat's state b
+-- the delegation of action a to seat k, from t, e and the seat's state b
 abbrev pub delegation : Sys → Pair → ℕ → ℕ → ℕ → ℕ → ℕ → Delegation ℕ
 delegation s q a e t k b = record { node = number (sizes_of s) (record { t = t; e = e; bs = slice_set q.bs k b }); action = a; seat = k }
 
--- the steps by which a leads from those states to q
+-- the steps by which action a leads from these states to q
 pub record Steps (s : Sys) (q : Pair) (a e t k b : ℕ) : Type 0 where
   pub seat : Seat
   pub seated : slice_get s.seats k ≡ Some seat
@@ -56,7 +56,7 @@ steps_lead s q a e t k b sys ok steps =
       is = sym (set-set q.bs k b (slice_index q.bs k) ∙ set-get_or q.bs k 0);
     })
 
--- a delegation that leads to q has such steps
+-- the steps of a delegation that leads to q
 pub record Comes (s : Sys) (q p : Pair) (a k : ℕ) : Type 0 where
   pub steps : Steps s q a p.e p.t k (slice_index p.bs k)
   pub from : origin q p.e p.t k (slice_index p.bs k) ≡ p
@@ -64,7 +64,7 @@ pub record Comes (s : Sys) (q p : Pair) (a k : ℕ) : Type 0 where
 outcome_steps : (s : Sys) (q p : Pair) (a k : ℕ) → IsPair s p → IsIn q (outcomes s p a k) → Comes s q p a k
 outcome_steps s q p a k ok i = grind (arith, from_outcome, get_or-set_same, states_long, set-get_or, set-set, slice_get_within)
 
--- the same by numbers
+-- the steps of a delegation that leads to the pair with the number r
 pub pair_comes : (s : Sys) (p r a k : ℕ) → IsSys s → p < count (sizes_of s) → IsIn r ((numbered s).outcomes p a k) → Comes s (pair_at (sizes_of s) r) (pair_at (sizes_of s) p) a k
 pair_comes s p r a k sys below_p led =
     let ok : IsPair s (pair_at (sizes_of s) p) = (numbers_are_pairs s).pair p below_p in
@@ -112,7 +112,7 @@ pub record FoundAt (s : Sys) (q : Pair) (a e t k : ℕ) (d : Delegation ℕ) : T
   pub target : (pair_at (sizes_of s) d.node).t ≡ t
   pub seat : d.seat ≡ k
 
--- joined lists have no repeats if an element shows from which list it comes
+-- joined lists have no repeats if each element determines the list from which it comes
 pub once_by : {X Y : Type 0} (f : X → List Y) (from : Y → X) (xs : List X) → HasNoRepeats xs → ((x : X) → IsIn x xs → HasNoRepeats (f x)) → ((x : X) (y : Y) → IsIn x xs → IsIn y (f x) → from y ≡ x) →
     HasNoRepeats (flat_map f xs)
 once_by f from xs once each is = HasNoRepeats-flat_map f xs each (λ x z y i j l m. sym (is x y i l) ∙ is z y j m) once

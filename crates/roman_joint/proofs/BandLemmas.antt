@@ -65,7 +65,7 @@ in_band s y i first sizes ok l =
       within = λ k past less. lane_part m y i k msizes inside past (omega (arith, less, long));
     }
 
--- a seat before a band's own stands before the lanes
+-- a seat before a band's own is before the lanes
 pub mid_low_le : (s : Sys) → mid_in s ≤ low_in s
 mid_low_le s = omega (arith, low_of-le (row_sizes (sizes_of s)).seats, length_rows (sizes_of s))
 
@@ -166,7 +166,7 @@ pub keeps_more : (s : Sys) (x i good word : ℕ) (test : ℕ → Bool) (old now 
     ((lane : ℕ) → is_on word lane ≡ (is_on (slice_index now i) lane && not (is_on good lane))) → Keeps (lanes_in s) x (i + 1) test old (set now i word)
 keeps_more s x i good word test old now room before served told = grind (arith, cases_eq, get_or-set_other, get_or-set_same, not-not, set)
 
--- where all pairs pass, nothing is cleared
+-- if all pairs pass, nothing is cleared
 pub keeps_all : (s : Sys) (x many : ℕ) (test : ℕ → Bool) (now : List ℕ) → ((i lane : ℕ) → i < many → lane < lanes_in s → test ((x + i) * lanes_in s + lane) ≡ true) → Keeps (lanes_in s) x many test now now
 keeps_all s x many test now all = record {
   each = λ i lane l m. all_pass (is_on (slice_index now i) lane) ∙ ap (λ b. is_on (slice_index now i) lane && b) (sym (all i lane l m));
@@ -271,7 +271,7 @@ module _ (s : Sys) (r : Layout) (y a : ℕ) (first : Row) (target_move : TargetM
 pub keeps_same : (s : Sys) (x many : ℕ) (p q : ℕ → Bool) (old new : List ℕ) → ((i lane : ℕ) → i < many → lane < lanes_in s → p ((x + i) * lanes_in s + lane) ≡ q ((x + i) * lanes_in s + lane)) → Keeps (lanes_in s) x many p old new → Keeps (lanes_in s) x many q old new
 keeps_same s x many p q old new same h = grind arith
 
--- where nothing is left, further tests change nothing
+-- if nothing is left, further tests change nothing
 pub keeps_cut : (s : Sys) (x many k n : ℕ) (p : ℕ → ℕ → Bool) (old now : List ℕ) → k ≤ n → ((i : ℕ) → i < many → slice_index now i ≡ 0) → Keeps (lanes_in s) x many (λ q. all_below (p q) k) old now → Keeps (lanes_in s) x many (λ q. all_below (p q) n) old now
 keeps_cut s x many k n p old now l clear h = grind (arith, cut_off, on_zero)
 
@@ -281,7 +281,7 @@ pub keeps_one : (s : Sys) (x word : ℕ) (test : ℕ → Bool) (old : List ℕ) 
     ((lane : ℕ) → is_on (slice_index old 0) lane ≡ false → is_on word lane ≡ false) → Keeps (lanes_in s) x 1 test old (set old 0 word)
 keeps_one s x word test old one told off = grind (arith, cases_eq, get_or-set_other, get_or-set_same, set)
 
--- where no pair passes, all words are 0
+-- if no pair passes, all words are 0
 pub keeps_nothing : (s : Sys) (x many : ℕ) (p : ℕ → Bool) (old now : List ℕ) → length old ≤ many → length now ≡ length old → ((i : ℕ) → i < length old → slice_index now i ≡ 0) →
     ((i lane : ℕ) → i < many → lane < lanes_in s → false ≡ p ((x + i) * lanes_in s + lane)) → Keeps (lanes_in s) x many p old now
 keeps_nothing s x many p old now few long clear off = grind (arith, and_nothing, cases_lt, get_or_past, on_zero)

@@ -38,7 +38,7 @@ behaves n k beh known of =
 pub seat_within : (n : NamedSys) (k : ℕ) (seat : model.Seat) → slice_get (system_of n).seats k ≡ Some seat → k < length n.seats
 seat_within n k seat h = grind (arith, length-map, slice_get_within)
 
--- the behaviour that is read at a place of the catalogue stands there
+-- the behaviour that is read from the catalogue is the one at the service's place there
 pub beh_placed : (n : NamedSys) (k : ℕ) (seat : Seat) (catalogue : List NamedBeh) (beh : NamedBeh) → IsNamedSys n → slice_get n.seats k ≡ Some seat → catalogue ≡ n.catalogue →
     beh ≡ get_or catalogue seat.behaviour beh → slice_get n.catalogue seat.behaviour ≡ Some beh
 beh_placed n k seat catalogue beh known seated same h =

@@ -1,4 +1,4 @@
--- What the proofs of other crates may cite of this one. All else in proofs/ can be renamed freely.
+-- The lemmas of this crate that proofs of other crates may cite. All else in proofs/ can be renamed freely.
 
 -- Searches for the first element that passes, step by step.
 pub use Rattle.roman_joint.proofs.Finds.{if_some, no_numbers}

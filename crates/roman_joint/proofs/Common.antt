@@ -1,4 +1,4 @@
--- What the proof pages of this crate cite from elsewhere, passed on from one place. Declares nothing.
+-- Re-exports the names that the proof pages of this crate use from other crates. Declares nothing.
 pub use Rattle.std.proofs.Common.{All, Bool, Fits, IfSome, IsFalse, IsTrue, List, None, Option, Some, [], add-one, ap, ap₂, arith, bit_and, cond, count_by, drop, eqb, false, get_or, get_or-drop, if◌then◌else◌, inl, inr, length, ltb, map, mul-le-mul, not, refl, replicate, rules, slice_get, slice_index, slice_index_or, slice_range, slice_set, subst, suc, sum_by, sym, take, true, vec_capacity, zero, ℕ, ◌%◌, ◌&&◌, ◌*◌, ◌++◌, ◌+◌, ◌-◌, ◌/◌, ◌<◌, ◌==◌, ◌^◌, ◌||◌, ◌↔◌, ◌∙◌, ◌∷◌, ◌≡◌, ◌≢◌, ◌≤◌, ◌⊎◌}
 pub use Rattle.std.proofs.Math.Bool.{and-false, and-true, and_assoc, not-not, or-false}
 pub use Rattle.std.proofs.Math.ListN.{set}

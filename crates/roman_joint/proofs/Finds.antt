@@ -37,7 +37,7 @@ some_numbers g [] states b some i = some
 some_numbers g (e ∷ envs) states b some i =
     in_not_empty (g e b) (flat_map (λ e. map (g e) states) (e ∷ envs)) (in_flat_map (λ e. map (g e) states) e (g e b) (e ∷ envs) (inl refl) (in_map (g e) b states i))
 
--- a slice is empty where `is_empty` says so
+-- a slice is empty if `is_empty` returns true
 pub none_there : (xs : List ℕ) (answer : Bool) → answer ≡ (length xs == 0) → answer ≡ true → xs ≡ []
 none_there xs answer h e = nil_from_length xs (eqb-true (length xs) 0 (sym h ∙ e))
 

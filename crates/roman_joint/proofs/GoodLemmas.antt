@@ -86,7 +86,7 @@ full_on n r lane laid l = laid.full lane ∙ lt-ltb lane (lanes_of n.seats) l
 pub full_off : (n : Sizes) (r : Layout) (lane : ℕ) → IsLayoutOf n r → lanes_of n.seats ≤ lane → is_on r.full lane ≡ false
 full_off n r lane laid l = laid.full lane ∙ le-ltb lane (lanes_of n.seats) l
 
--- what a seat's own state adds to the number of an attempt's first row
+-- the share of a seat's own state in the number of an attempt's first row
 pub taken_before : (s : Sys) (r : Layout) (x a k : ℕ) (row : Row) (target_move : TargetMove) → Known s x row → IsLayoutOf (sizes_of s) r → IsTargetMove s row a target_move → k < low_in s →
     slice_index row.states k * slice_index r.strides k ≤ target_move.base
 taken_before s r x a k row target_move h laid ok before =
@@ -102,17 +102,17 @@ taken_before s r x a k row target_move h laid ok before =
     let taken : own * u ≤ ok.to * target_rows_of n + row.part = row_least (own * u) (ok.to * target_rows_of n + row.part) w 0 pos (omega (arith, start.taken, product, sum)) in
     omega (arith, taken, ok.base)
 
--- where a seat before the lanes has no next state, it serves at no pair
+-- a seat before the lanes that has no next state serves at no pair
 pub beaten_before : (s : Sys) (r : Layout) (x a k lane : ℕ) (row : Row) (target_move : TargetMove) (gone : ℕ → Bool) → Known s x row → IsLayoutOf (sizes_of s) r → IsTargetMove s row a target_move → k < low_in s →
     seat_next (slice_get s.seats k) (slice_index row.states k) row.env a ≡ [] → lane < lanes_in s → is_beaten (numbered s) gone (x * lanes_in s + lane) a k ≡ true
 beaten_before s r x a k lane row target_move gone h laid ok before none l =
     leads_nothing _ _ _ _ _ _ _ _ (leads_before _ _ _ _ _ _ _ _ _ _ _ h.sys h.looked l before (laid.before k before) ok.target ok.worlds refl refl) none
 
--- a word without lanes, where no pair is served
+-- a word without lanes, if no pair is served
 pub none_served : (w x : ℕ) (test : ℕ → Bool) → ((lane : ℕ) → lane < w → test (x * w + lane) ≡ true) → HasLanes w x (λ p. not (test p)) 0
 none_served w x test all = record { each = λ lane l. on_zero lane ∙ sym (ap not (all lane l)); rest = λ lane l. on_zero lane }
 
--- rows of these numbers, one of which is far enough before the end
+-- rows of these numbers are in range if each is at least `many` before the end
 pub suits_rows : (rows : Outcomes) (many long : ℕ) → 0 < many → long < 2 ^ 32 → IsFalse (is_empty rows.states.now) →
     ((e b : ℕ) → IsIn e rows.envs.now → IsIn b rows.states.now → outcome_number rows e b + many ≤ long) → SuitsRows rows many long
 suits_rows rows many long pos few some there = record {

@@ -28,7 +28,7 @@ any_swap test xs ys t = grind (arith, any_from, any_true)
 any_swapped : (test : ℕ → ℕ → Bool) (xs ys : List ℕ) → list_any (λ x. list_any (test x) ys) xs ≡ list_any (λ y. list_any (λ x. test x y) xs) ys
 any_swapped test xs ys = same_test _ _ (any_swap test xs ys) (any_swap (λ y x. test x y) ys xs)
 
--- a seat is beaten exactly if it has no state to go to, or one that is dead: from which a next state of the environment leads to a node that is gone
+-- a seat is beaten exactly if it has no next state, or a dead one: from it, a next state of the environment leads to a node that is gone
 pub leads_beaten : (A : Arena ℕ) (gone : ℕ → Bool) (p a k : ℕ) (envs states : List ℕ) (to : ℕ → ℕ → ℕ) (dead : ℕ → Bool) → Leads A p a k envs states to →
     IsFalse (is_empty envs) → ((b : ℕ) → IsIn b states → dead b ≡ list_any (λ e. gone (to e b)) envs) → (is_empty states || list_any dead states) ≡ is_beaten A gone p a k
 leads_beaten A gone p a k envs [] to dead leads some_env same = sym (leads_nothing A gone p a k envs [] to leads refl)
@@ -49,7 +49,7 @@ start_row s row x lane k to part stride ok in_lanes seat in_target is_part is_st
     let whole : to * (target_rows_of n * w) + (x * w + lane) % (R * w) ≡ to * target_rows_of n * w + (row.part * w + lane) = ap (λ m. to * (target_rows_of n * w) + m) within_env ∙ omega arith in
     subst (λ m. StartsAt n (x * w + lane) k to m part (R * w) stride) whole start
 
--- the outcomes of a delegation, where their numbers are counted from the first
+-- the outcomes of a delegation, with their numbers counted from the first
 leads_row : (s : Sys) (row : Row) (x lane a k to part stride : ℕ) (envs states : List ℕ) (number : ℕ → ℕ → ℕ) → IsSys s → IsRow s x row → lane < lanes_in s → k < length (sizes_of s).seats →
     part ≡ slice_index (pair_at (sizes_of s) (x * lanes_in s + lane)).bs k → stride ≡ stride_of (sizes_of s) k →
     beh_next s.target row.target row.env a ≡ to ∷ [] → envs ≡ env_next s.env row.env a → states ≡ seat_next (slice_get s.seats k) part row.env a →

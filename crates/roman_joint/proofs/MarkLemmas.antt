@@ -7,7 +7,7 @@ use Rattle.roman_joint.proofs.SplitLemmas.{stride_rows, quotient}
 use Rattle.roman_joint.proofs.LeadLemmas.{start_row, lane_state, lane_part}
 use Rattle.roman_joint.proofs.BandLemmas.{row_in, InBand, in_band, mid_low, mid_low_le, first_in}
 
--- Adding marks.
+-- Marks that are added.
 
 pub marked_on : (a b : List ℕ) (y : ℕ) → Grows a b → IsMarked a y → IsMarked b y
 marked_on a b y more m l = more.still y (m (subst (λ n. y < 64 * n) more.long l))
@@ -83,7 +83,7 @@ own_band p w v c j o b taken l is =
     let whole : p ≡ c * (w * v) + (j + b - o) = omega (arith, taken, is) in
     div-div-eq-div-mul p w v ∙ (ap (λ x. x / (w * v)) whole ∙ div-mul-add c (w * v) (j + b - o) l)
 
--- a seat before the band's own changes it
+-- a seat before the band's own changes the band
 front_band : (p w v own b h c j : ℕ) → 0 < w * v → j < w * v → p + own * (h * (w * v)) ≡ c * (w * v) + j + b * (h * (w * v)) → p / w / v + own * h ≡ c + b * h
 front_band p w v own b h c j pos l is =
     let split = div-add-mod' p (w * v) in
@@ -94,7 +94,7 @@ front_band p w v own b h c j pos l is =
 pub in_table : (s : Sys) (p long : ℕ) → IsSizes (sizes_of s) → p < count (sizes_of s) → count (sizes_of s) ≤ long * band_in s * lanes_in s → p / lanes_in s / band_in s < long
 in_table s p long sizes l room = div_below _ _ long (first_in s sizes) (div_below p (lanes_in s) (long * band_in s) (lanes_positive (sizes_of s).seats sizes.seats) (omega (arith, l, room)))
 
--- from a pair's band, a leads to a pair of the row's band
+-- from a pair's band, action a leads to a pair of the row's band
 pub is_before : (s : Sys) (row : Row) (y i lane p a k : ℕ) → IsSys s → IsSizes (sizes_of s) → IsRow s (y * band_in s) row → i < band_in s → lane < lanes_in s → p < count (sizes_of s) →
     IsIn ((y * band_in s + i) * lanes_in s + lane) ((numbered s).outcomes p a k) → AnyOf (IsBeforeAction s row) (below s.env.actions) (p / lanes_in s / band_in s)
 is_before s row y i lane p a k sys sizes first in_rows in_lanes below_p led =
@@ -178,7 +178,7 @@ back_once A q once =
     (λ a j. HasNoRepeats-map _ (below A.seats) (λ k o u v is. ap (λ (d : Delegation ℕ). d.seat) is) (HasNoRepeats-below A.seats))
     (λ a d i j. grind (arith, from_map))) (λ p d i j. grind (arith, from_flat_map, from_map)))
 
--- the delegations to a seat count only if it stands before the band's own
+-- the delegations to a seat count only if it is before the band's own
 count_states : (s : Sys) (q : Pair) (a e t k : ℕ) (bs : List ℕ) → count_by (λ d. ltb d.seat (mid_in s)) (from_states s q a e t k bs) ≡ cond (ltb k (mid_in s)) (sum_by (λ b. 1) bs) 0
 count_states s q a e t k [] = grind (arith, by_test)
 count_states s q a e t k (b ∷ bs) =
@@ -189,7 +189,7 @@ count_states s q a e t k (b ∷ bs) =
     more true rest ones e = omega (arith, e)
     more false rest ones e = omega (arith, e)
 
--- where an action doesn't lead to a band, nothing is marked
+-- if an action doesn't lead to a band, nothing is marked
 pub none_leads : (s : Sys) (row : Row) (a n : ℕ) (marks : List ℕ) → AreLeading s.env s.target row.target row.env row.leading → a < s.env.actions → bit_at row.leading a ≡ 0 →
     Marks (IsBeforeAction s row a) (action_steps s row a) marks marks n n
 none_leads s row a n marks leading l off = record {

@@ -176,7 +176,7 @@ seat_here parts sizes k x y of l at_seat at_beh = service_read (named_in parts o
 pub room_more : (ns : List ℕ) (k : ℕ) → k < length ns → shifts_room (drop k ns) ≡ 2 * get_or ns k 0 - 1 + shifts_room (drop (k + 1) ns)
 room_more ns k l = ap shifts_room (drop_more ns k 0 l)
 
--- A service that is frozen or made ready keeps its moves.
+-- A service that is frozen or thawed keeps its moves.
 
 pub moves_frozen : (n : NamedSys) (k : ℕ) (frozen : Bool) (table : Moves) → HoldsMoves (system_of n) table → HoldsMoves (system_of (with_seats n (with_frozen n.seats k frozen))) table
 moves_frozen n k frozen table held =

@@ -28,7 +28,7 @@ starts_at n p k to from target_stride part env_stride stride below_p within targ
           omega (arith, there, bare, low);
     })
 
--- the numbers of a list of pairs, where g gives the number of each
+-- the numbers of a list of pairs; g gives the number of each
 numbers_of_states : (n : Sizes) (f : ℕ → Pair) (g : ℕ → ℕ) (bs : List ℕ) → ((b : ℕ) → g b ≡ number n (f b)) → map (number n) (map f bs) ≡ map g bs
 numbers_of_states n f g [] h = refl
 numbers_of_states n f g (b ∷ bs) h = ap₂ (λ x xs. x ∷ xs) (sym (h b)) (numbers_of_states n f g bs h)
@@ -57,7 +57,7 @@ target_in_range s t e a to sys next =
     let there : IsIn to (beh_next s.target t e a) = subst (λ ts. IsIn to ts) (sym next) (inl refl) in
     (move_in_range s.env s.target t e a to sys.target (from_beh_next s.target t e a to there)).3
 
--- a ready seat isn't frozen
+-- a seat that is ready isn't frozen
 pub seat_ready : (o : Option Seat) (seat : Seat) → o ≡ Some seat → IsTrue (is_ready o) → IsFalse seat.frozen
 seat_ready o seat is ready = not-true seat.frozen (subst (λ x. IsTrue (is_ready x)) is ready)
 

@@ -36,7 +36,7 @@ fine_row s row x lane sizes ok l =
     (λ k low. ap (may_rest (slice_get s.seats k)) (sym (ok.states k lane low l)))
     (λ k past inside. ap (may_rest (slice_get s.seats k)) (sym (lane_part (sizes_of s) x lane k sizes (ok.below lane l) past (omega (arith, inside, length-map s.seats (λ (seat : Seat). seat.beh.states))))))))
 
--- the same at a pair of a band, by the seats before the band's own, the band's own and those within the lanes
+-- clause 2 at a pair of a band, by the seats before the band's own, the band's own and those within the lanes
 pub fine_band : (s : Sys) (row : Row) (y i lane resting : ℕ) → IsSizes (sizes_of s) → IsRow s (y * band_in s) row → i < band_in s → lane < lanes_in s → HasResting s resting →
     (numbered s).fine ((y * band_in s + i) * lanes_in s + lane)
     ≡ (not (is_final s.target row.target) || ((all_below (λ k. may_rest (slice_get s.seats k) (slice_index row.states k)) (mid_in s) && all_below (λ k. ltb k (mid_in s) || may_rest (slice_get s.seats k) (lane_state_of (row_sizes (sizes_of s)) k i)) (low_in s)) && is_on resting lane))

@@ -34,7 +34,7 @@ seats_known n seats change known can is fits behaviours names = record {
   target = known.target;
 }
 
--- A service is frozen or made ready.
+-- A service is frozen or thawed.
 
 pub frozen_set : (seats : List Seat) (k : ℕ) (x : Seat) (frozen : Bool) → x ≡ get_or seats k x →
     set seats k (record { name = x.name; behaviour = x.behaviour; frozen = frozen; rests = x.rests }) ≡ with_frozen seats k frozen
@@ -135,7 +135,7 @@ pub joined_test : (n : NamedSys) (seat : Seat) (m : Sizes) (size actions : ℕ) 
     (count (grown_sizes m size) ≤ n.limit / actions) ↔ (cells (after (Join (seat_of n.catalogue seat)) (system_of n)) ≤ n.limit)
 joined_test n seat m size actions known is_m is_size is_actions = rw (is_m, is_size, is_actions) (grind (arith, joined_sizes, joined_system, le-div_iff_mul-le))
 
--- a service that is frozen or made ready keeps its behaviour
+-- a service that is frozen or thawed keeps its behaviour
 pub frozen_at : (catalogue : List NamedBeh) (seats : List Seat) (k : ℕ) (frozen : Bool) (j : ℕ) (x : model.Seat) → slice_get (map (seat_of catalogue) (with_frozen seats k frozen)) j ≡ Some x →
     (y : model.Seat) × (slice_get (map (seat_of catalogue) seats) j ≡ Some y) × (y.beh ≡ x.beh)
 frozen_at catalogue [] k frozen j x e = (x, e, refl)

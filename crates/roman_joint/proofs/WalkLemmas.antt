@@ -9,7 +9,7 @@ flat_map-drop f xs i d l = ap (flat_map f) (drop_more xs i d l)
 pub flat_map-past : {X Y : Type 0} (f : X → List Y) (xs : List X) (i : ℕ) → length xs ≤ i → flat_map f (drop i xs) ≡ []
 flat_map-past f xs i l = ap (flat_map f) (drop_all i xs l)
 
--- the same for the numbers below a bound
+-- joined lists of the numbers from a place on are the first one and the rest
 flat_map-below : {Y : Type 0} (f : ℕ → List Y) (n i : ℕ) → i < n → flat_map f (drop i (below n)) ≡ f i ++ flat_map f (drop (i + 1) (below n))
 flat_map-below f n i l =
     flat_map-drop f (below n) i 0 (omega (arith, length-below n)) ∙ ap (λ j. f j ++ flat_map f (drop (i + 1) (below n))) (get_or-below n i 0 l)
@@ -92,7 +92,7 @@ module _ (s : Sys) (sys : IsSys s) (w : Walk) (ok : IsWalk s w) where
         falls = omega (arith, sys.few, taken);
       }
 
-  -- the walk at the next action, where all states of the target count as taken
+  -- the walk at the next action; all states of the target count as taken
   abbrev pub action_on : ℕ → Walk
   action_on k = record w { action = w.action + 1; envs_taken = 0; targets_taken = 64; seat = k; states_taken = 0 }
 
@@ -141,7 +141,7 @@ module _ (s : Sys) (sys : IsSys s) (w : Walk) (ok : IsWalk s w) where
       delegation_of : ℕ → ℕ → ℕ → Delegation ℕ
       delegation_of node a k = record { node = node; action = a; seat = k }
 
--- m is the number of seats
+-- the walk before its first delegation; m is the number of seats
 abbrev pub first_walk : ℕ → ℕ → Walk
 first_walk p m = record { pair = p; action = 0; envs_taken = 0; env = 0; targets_taken = 64; target = 0; seat = m; states_taken = 0 }
 

@@ -1,4 +1,4 @@
--- Bands of rows: runs of neighbouring rows, which differ only in the states of the last seats before the lanes.
+-- Bands of neighbouring rows, which differ only in the states of the last seats before the lanes.
 use Rattle.std.specs.Prelude.{◌≡◌, ℕ, ◌+◌, ◌-◌, ◌*◌, ◌^◌, ◌<◌, ◌≤◌, ◌&&◌, ◌||◌, true, false, not, All, Bool, List, IsFalse, length, slice_get, slice_index}
 use Rattle.std.specs.List.{list_any}
 use Rattle.roman_model.specs.Lists.{is_empty, all_below}
@@ -42,7 +42,7 @@ abbrev pub LosesStripe : Stripe → ℕ → ℕ → ℕ → Type 0
 LosesStripe stripe i old new = (lane : ℕ) → is_on new lane
     ≡ (is_on old lane && list_any (λ b. not (is_on (slice_index stripe.alive.now (stripe.from + i + b * stripe.stride)) lane)) stripe.states.now)
 
--- the new word at place i is the old one without lanes that are set in all rows of the word, those with the numbers of `rows`, each plus i: without all such lanes of `full`
+-- the new word at place i is the old one without some lanes that are set in all rows of the word, among them all such lanes of `full`; the rows have the numbers of `rows`, each plus i
 pub record LosesAlive (rows : Outcomes) (words : List ℕ) (full i old new : ℕ) : Type 0 where
   pub each : (lane : ℕ) → is_on full lane ≡ true → is_on new lane
       ≡ (is_on old lane && list_any (λ e. list_any (λ b. not (is_on (slice_index words (rows.base + i + e * rows.env_stride + b * rows.stride)) lane)) rows.states.now) rows.envs.now)
@@ -69,7 +69,7 @@ pub record SuitsBand (s : Sys) (attempt : Attempt) (alive left : List ℕ) : Typ
   pub room : band_in s ≤ length alive
   pub long : length left ≡ band_in s
 
--- in the attempt's band, exactly the pairs that pass the test stay set, where `alive` has the alive lanes of each row's attempt
+-- in the attempt's band, exactly the pairs that pass the test stay set, if `alive` has the alive lanes of each row's attempt
 pub record ClearsBand (s : Sys) (attempt : Attempt) (alive : List ℕ) (test : (ℕ → Bool) → ℕ → Bool) (old new : List ℕ) : Type 0 where
   pub long : length new ≡ length old
   pub left : (y : ℕ) (gone : ℕ → Bool) → IsRow s (y * band_in s) attempt.row.now → HasAlive s gone attempt.words.now → AllAlive s gone attempt.to alive → Keeps (lanes_in s) (y * band_in s) (band_in s) (test gone) old new
@@ -82,7 +82,7 @@ ClearsServed s attempt alive k old new = ClearsBand s attempt alive (λ gone p. 
 abbrev pub ClearsAllServed : Sys → Attempt → List ℕ → ℕ → List ℕ → List ℕ → Type 0
 ClearsAllServed s attempt alive many old new = ClearsBand s attempt alive (λ gone p. all_below (is_beaten (numbered s) gone p attempt.action) many) old new
 
--- by the action, seat k leads from the row to these rows; it stands before the lanes and has a next state
+-- by the action, seat k leads from the row to these rows; the seat is before the lanes, and has a next state
 pub record AreRowsBefore (s : Sys) (row : Row) (target_move : TargetMove) (a k : ℕ) (to : Outcomes) : Type 0 where
   pub base : to.base + slice_index row.states k * to.stride ≡ target_move.base
   pub stride : to.stride * lanes_in s ≡ stride_of (sizes_of s) k

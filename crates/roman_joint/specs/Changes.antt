@@ -1,4 +1,4 @@
--- Services after one is frozen or made ready.
+-- Services after one is frozen or thawed.
 use Rattle.std.specs.Prelude.{ℕ, zero, suc, Bool, List, [], ◌∷◌}
 use Rattle.roman_joint.specs.declared.seat.Seat.{Seat}
 

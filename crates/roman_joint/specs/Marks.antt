@@ -27,7 +27,7 @@ pub record Grows (old new : List ℕ) : Type 0 where
 abbrev pub row_at : Sys → Row → ℕ → ℕ → ℕ
 row_at s row e t = t * target_rows_of (sizes_of s) + e * env_rows_of (sizes_of s) + row.part
 
--- the row, the environment's state and the action are those of the joint
+-- the row, the environment's state and the action belong to the joint
 pub record IsArrival (by : Arrival) : Type 0 where
   pub row : (x : ℕ) × IsRow (system_of by.joint.now) x by.row.now
   pub env : by.env < (system_of by.joint.now).env.states
@@ -51,36 +51,36 @@ pub record IsMoved (base stride taken band b y : ℕ) : Type 0 where
   pub moved : row + taken ≡ base + b * stride
   pub band_of : y ≡ row / band
 
--- from the band, seat k goes by a, in environment state e, to its state in the row; `base` is the earlier row with the seat unmoved
+-- from the band, seat k goes by action a, in environment state e, to its state in the row; `base` is the row before the step, but with the seat in its state after it
 abbrev pub IsBeforeSeat : Sys → Row → ℕ → ℕ → ℕ → ℕ → ℕ → Type 0
 IsBeforeSeat s row a e base k =
     let stride = stride_of (sizes_of s) k / lanes_in s in
     AnyOf (IsMoved base stride (slice_index row.states k * stride) (band_in s)) (seat_prev (slice_get s.seats k) (slice_index row.states k) e a)
 
--- from the band, at the target's t and the environment's e, a leads to the row's band
+-- from the band, at the target's t and the environment's e, action a leads to the row's band
 pub record IsBeforeTarget (s : Sys) (row : Row) (a e t y : ℕ) : Type 0 where
   pub either : (y ≡ row_at s row e t / band_in s) ⊎ AnyOf (IsBeforeSeat s row a e (row_at s row e t)) (below (mid_in s)) y
 
--- from the band, at the environment's e, a leads to the row's band
+-- from the band, at the environment's e, action a leads to the row's band
 abbrev pub IsBeforeEnv : Sys → Row → ℕ → ℕ → ℕ → Type 0
 IsBeforeEnv s row a e = AnyOf (IsBeforeTarget s row a e) (beh_prev s.target row.target e a)
 
--- from the band, a leads to the row's band
+-- from the band, action a leads to the row's band
 abbrev pub IsBeforeAction : Sys → Row → ℕ → ℕ → Type 0
 IsBeforeAction s row a = AnyOf (IsBeforeEnv s row a) (env_prev s.env row.env a)
 
--- the steps for seat k: one for each state from which it goes by a, in environment state e, to its state in the row
+-- the steps for seat k: one for each state from which it goes by action a, in environment state e, to its state in the row
 abbrev pub seat_steps : Sys → Row → ℕ → ℕ → ℕ → ℕ
 seat_steps s row a e k = sum_by (λ b. 1) (seat_prev (slice_get s.seats k) (slice_index row.states k) e a)
 
--- the steps for the seats before the band's own, by a in environment state e
+-- the steps for the seats before the band's own, by action a in environment state e
 abbrev pub target_steps : Sys → Row → ℕ → ℕ → ℕ
 target_steps s row a e = sum_by (seat_steps s row a e) (below (mid_in s))
 
--- the steps for all states of the target from which it goes by a, in environment state e, to its state in the row
+-- the steps for all states of the target from which it goes by action a, in environment state e, to its state in the row
 abbrev pub env_steps : Sys → Row → ℕ → ℕ → ℕ
 env_steps s row a e = sum_by (λ t. target_steps s row a e) (beh_prev s.target row.target e a)
 
--- the steps for all states of the environment from which it goes by a to its state in the row
+-- the steps for all states of the environment from which it goes by action a to its state in the row
 abbrev pub action_steps : Sys → Row → ℕ → ℕ
 action_steps s row a = sum_by (env_steps s row a) (env_prev s.env row.env a)

@@ -28,7 +28,7 @@ pub record AreLaneMoves (n : Sizes) (k : ℕ) (next : ℕ → List ℕ) (some : 
   pub leads : (test : ℕ → Bool) (lane : ℕ) → lane < lanes_of n.seats → list_any (λ move. is_on move.lanes lane && test (lane + move.to - move.from)) moves
       ≡ list_any (λ b. test (lane + b * stride_of n k - lane_state_of n k lane * stride_of n k)) (next (lane_state_of n k lane))
 
--- these are the moves of seat k with the behaviour on a in environment state e
+-- these are the moves of seat k with the behaviour on action a in environment state e
 abbrev pub AreMovesOf : Sizes → ℕ → Beh → ℕ → ℕ → ℕ → List Move → Type 0
 AreMovesOf n k beh e a some moves = AreLaneMoves n k (λ b. beh_next beh b e a) some moves
 
@@ -53,7 +53,7 @@ pub record SuitsShifts (n : Sizes) (rows : Layout) (k : ℕ) (behaviour : NamedB
   pub env : e < behaviour.env_states
   pub action : a < behaviour.actions
 
--- the lanes of each shift are those of seat k with the behaviour on a in environment state e; shift j leads j + 1 - n states up, of n states
+-- the lanes of each shift are those of seat k with the behaviour on action a in environment state e; shift j leads j + 1 - n states up, of n states
 pub record AreShifts (n : Sizes) (k : ℕ) (beh : Beh) (e a : ℕ) (shifts : Shifts) : Type 0 where
   pub each : (lane : ℕ) → lane < lanes_of n.seats → is_on shifts.some lane ≡ not (is_empty (beh_next beh (lane_state_of n k lane) e a))
   pub rest : (lane : ℕ) → lanes_of n.seats ≤ lane → is_on shifts.some lane ≡ false
@@ -80,11 +80,11 @@ shifts_room (size ∷ sizes) = 2 * size - 1 + shifts_room sizes
 abbrev pub within_in : Sys → ℕ
 within_in s = length s.seats - low_in s
 
--- the place of a span in a table, where the seat's place changes fastest, then the action's, then that of the environment's state
+-- the place of a span in a table that is ordered by the environment's state, then by the action and then by the seat
 abbrev pub span_place : Sys → ℕ → ℕ → ℕ → ℕ
 span_place s e a k = (e * s.env.actions + a) * within_in s + (k - low_in s)
 
--- the span at place i of a table has the moves of the seat, on the action in the environment's state, whose place that is
+-- the span at place i of a table has the moves of the seat, the action and the environment's state with that place
 pub record IsSpan (s : Sys) (i : ℕ) (span : Span) (moves : List Move) : Type 0 where
   pub first : span.first ≤ span.end
   pub last : span.end ≤ length moves

@@ -1,4 +1,4 @@
--- What a joint's pairs, actions and seats are: words for contracts.
+-- Short names for contracts: the pairs, actions and seats of a joint.
 use Rattle.std.specs.Prelude.{ℕ, Option, slice_get, slice_index}
 use Rattle.roman_model.specs.Arena.{Arena}
 use Rattle.roman_model.specs.System.{Pair, Seat}

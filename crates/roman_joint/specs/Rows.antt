@@ -101,6 +101,6 @@ pub record IsAttempt (s : Sys) (x : ℕ) (attempt : Attempt) : Type 0 where
   pub action : attempt.action < s.env.actions
   pub room : length attempt.words.now * lanes_in s ≡ count (sizes_of s)
 
--- the word has exactly the lanes at which seat k serves the attempt's action, where `alive` has the alive lanes of the attempt
+-- the word has exactly the lanes at which seat k serves the attempt's action, if `alive` has the alive lanes of the attempt
 pub record AreServed (s : Sys) (attempt : Attempt) (alive k word : ℕ) : Type 0 where
   pub each : (x : ℕ) (gone : ℕ → Bool) → IsRow s x attempt.row.now → HasAlive s gone attempt.words.now → AreAlive s gone attempt.to alive → HasLanes (lanes_in s) x (λ p. not (is_beaten (numbered s) gone p attempt.action k)) word

@@ -23,7 +23,7 @@ pub record IsTargetView (env : Env) (target : Beh) (t e : ℕ) (target_view : Ta
   pub allowed : ArePermitted env target t e target_view.allowed
   pub leading : AreLeading env target t e target_view.leading
 
--- there is a target view for each state of the target and of the environment, where the environment's changes fastest
+-- there is a target view for each state of the target and of the environment, ordered by the target's state and then by the environment's
 pub record AreTargetViews (env : Env) (target : Beh) (target_views : List TargetView) : Type 0 where
   pub long : length target_views ≡ target.states * env.states
   pub each : (i : ℕ) (target_view : TargetView) → i < length target_views → target_view ≡ slice_index_or target_views i target_view → IsTargetView env target (i / env.states) (i % env.states) target_view

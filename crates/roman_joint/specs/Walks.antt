@@ -28,28 +28,28 @@ pub record IsWalk (s : Sys) (walk : Walk) : Type 0 where
 abbrev pub states_before : Sys → Walk → List ℕ
 states_before s walk = seat_prev (slice_get s.seats walk.seat) (slice_index (goal_of s walk).bs walk.seat) walk.env walk.action
 
--- the delegations that are left to the current service, at the current states of the environment and the target
+-- the remaining delegations to the current service, at the current states of the environment and the target
 abbrev pub left_of_seat : Sys → Walk → List (Delegation ℕ)
 left_of_seat s walk = from_states s (goal_of s walk) walk.action walk.env walk.target walk.seat (drop walk.states_taken (states_before s walk))
 
--- the delegations that are left to the services after the current one, at the same states of the environment and the target
+-- the remaining delegations to the services after the current one, at the same states of the environment and the target
 abbrev pub left_of_target : Sys → Walk → List (Delegation ℕ)
 left_of_target s walk = flat_map (from_seat s (goal_of s walk) walk.action walk.env walk.target) (drop (walk.seat + 1) (below (length s.seats)))
 
--- the delegations that are left from the target's states that weren't taken, at the same state of the environment
+-- the delegations from the target's remaining predecessor states, at the same state of the environment
 abbrev pub left_of_env : Sys → Walk → List (Delegation ℕ)
 left_of_env s walk =
     flat_map (from_target s (goal_of s walk) walk.action walk.env) (drop walk.targets_taken (beh_prev s.target (goal_of s walk).t walk.env walk.action))
 
--- the delegations that are left from the environment's states that weren't taken, on the same action
+-- the delegations from the environment's remaining predecessor states, on the same action
 abbrev pub left_of_action : Sys → Walk → List (Delegation ℕ)
 left_of_action s walk = flat_map (from_env s (goal_of s walk) walk.action) (drop walk.envs_taken (env_prev s.env (goal_of s walk).e walk.action))
 
--- the delegations that are left of the actions after the current one
+-- the delegations of the actions after the current one
 abbrev pub left_of_all : Sys → Walk → List (Delegation ℕ)
 left_of_all s walk = flat_map (from_action s (goal_of s walk)) (drop (walk.action + 1) (below s.env.actions))
 
--- all delegations that are left
+-- all remaining delegations
 abbrev pub left : Sys → Walk → List (Delegation ℕ)
 left s walk = left_of_seat s walk ++ (left_of_target s walk ++ (left_of_env s walk ++ (left_of_action s walk ++ left_of_all s walk)))
 
@@ -58,7 +58,7 @@ abbrev pub walk_left : Sys → Walk → ℕ
 walk_left s walk =
     (s.env.actions - walk.action) * 2 ^ 20 + (64 - walk.envs_taken) * 2 ^ 13 + (64 - walk.targets_taken) * 2 ^ 6 + (length s.seats - walk.seat)
 
--- the walk moves on, and the same delegations are left
+-- the walk moves on, and has the same remaining delegations
 pub record WalkGoesOn (s : Sys) (old new : Walk) : Type 0 where
   pub walk : IsWalk s new
   pub left : left s new ≡ left s old

@@ -31,7 +31,7 @@ pub(crate) struct Attempt<'a> {
     pub(crate) to: TargetMove<'a>,
 }
 
-/// Returns the states to which the action `a` leads from a row, or `None` exactly where the action
+/// Returns the states to which the action `a` leads from a row, or `None` exactly if the action
 /// isn't allowed there.
 #[tactic(auto, using(roman_rules::proofs::CallerLemmas::bit_off, std::proofs::lemmas::Nat::Bits::shr_and_one, crate::proofs::GoodLemmas::target_move_fits))]
 pub(crate) fn target_move_of<'a>(joint: &'a Joint, row: &Row, a: u8) -> Option<TargetMove<'a>>
@@ -55,8 +55,8 @@ pub(crate) fn target_move_of<'a>(joint: &'a Joint, row: &Row, a: u8) -> Option<T
     Some(TargetMove { base, envs })
 }
 
-/// Returns the rows to which the seat `k` leads from the attempt's row, or `None` exactly where it has no
-/// next state. The seat stands before the lanes.
+/// Returns the rows to which the seat `k` leads from the attempt's row, or `None` exactly if it has
+/// no next state. The seat is before the lanes.
 #[inline(always)]
 #[tactic(auto, using(crate::proofs::GoodLemmas::seats_few))]
 pub(crate) fn rows_before<'a>(

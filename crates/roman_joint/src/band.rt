@@ -17,8 +17,8 @@ use crate::stripes::{Stripe, clear_alive, clear_state, is_clear, rows_alive_each
 use crate::words::less;
 use roman_rules::BAND;
 
-/// Clears, in `left`, the pairs of a band at which the seat `k` serves the action. The seat stands
-/// before the band's own.
+/// Clears, in `left`, the pairs of a band at which the seat `k` serves the action. The seat is
+/// before the band's own seats.
 #[tactic(auto, using(roman_radix::proofs::CallerLemmas::lanes_few))]
 fn clear_before(joint: &Joint, attempt: &Attempt<'_>, k: u8, left: &mut [u64])
     requires attempt { IsBandAttempt (system_of joint.now) attempt.now }
@@ -50,8 +50,9 @@ pub(crate) fn alive_each(joint: &Joint, attempt: &Attempt<'_>, alive: &mut [u64]
     rows_alive_each(alive, attempt.words, to.base, to.envs, rows.env_rows);
 }
 
-/// Returns the only row to which the attempt leads from the first row of a band. Its word and those of the
-/// next rows hold the alive lanes of each row's attempt. Returns `None` where it leads to several rows.
+/// Returns the only row to which the attempt leads from the first row of a band. Its word and those
+/// of the next rows are the alive lanes of the attempts of the band's rows. Returns `None` if it
+/// leads to several rows.
 fn only_row(joint: &Joint, attempt: &Attempt<'_>) -> Option<usize>
     requires attempt { IsBandAttempt (system_of joint.now) attempt.now }
     ensures within { IfSome result (λ from. from + band_in (system_of joint.now) ≤ length attempt.now.words.now) }

@@ -1,4 +1,4 @@
-//! Where seats may rest: within the lanes, at a row, and in the rows of a band.
+//! The seats that may rest: within the lanes, at a row, and in the rows of a band.
 ghost use Rattle.std.specs.Prelude.{◌≡◌, ℕ, ◌<◌, ◌≤◌, ◌||◌, ltb, length, slice_get, slice_index};
 ghost use Rattle.roman_model.specs.Lists.{all_below};
 ghost use Rattle.roman_model.specs.Numbers.{sizes_of};
@@ -32,7 +32,7 @@ pub(crate) fn rests_within(joint: &Joint, k: u8) -> u64
     lanes
 }
 
-/// Returns whether the first `many` seats may rest at a row. All of them stand before the lanes.
+/// Returns whether the first `many` seats may rest at a row. All of them are before the lanes.
 #[tactic(auto, using(crate::proofs::GoodLemmas::seats_few))]
 pub(crate) fn front_rests(joint: &Joint, row: &Row, many: u8) -> bool
     requires row { (x : ℕ) × IsRow (system_of joint.now) x row.now }
@@ -49,8 +49,7 @@ pub(crate) fn front_rests(joint: &Joint, row: &Row, many: u8) -> bool
     true
 }
 
-/// Returns whether the seats of a band's own may rest in row `i` of the band, counted from its first
-/// row.
+/// Returns whether the band's own seats may rest in row `i` of a band, counted from its first row.
 pub(crate) fn own_rests(joint: &Joint, i: u32) -> bool
     requires { i < band_in (system_of joint.now) }
     ensures { let s = system_of joint.now in

@@ -62,7 +62,7 @@ pub(crate) fn good_on(joint: &Joint, attempt: &Attempt<'_>, alive: u64, k: u8) -
     }
 }
 
-/// Returns how many of the first seats have to be tried for an action. Without an alive lane these
+/// Returns how many of the first seats have to be tried for an action. If no lane is alive, these
 /// are the seats before the lanes, since the others serve at no pair.
 #[tactic(auto, using(crate::proofs::GoodLemmas::seat_counts))]
 pub(crate) fn serving(joint: &Joint, alive: u64) -> u8

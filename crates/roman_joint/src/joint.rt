@@ -33,9 +33,9 @@ use std::marker::Model;
 /// system of the Roman model (De Giacomo, Patrizi and Sardina, "Automatic Behavior Composition
 /// Synthesis", Artificial Intelligence 196, 2013).
 ///
-/// The pairs of the system have the numbers of its [shape](Joint::shape). Services are given by their
-/// places, and actions and states by their numbers. Unless a call says otherwise, numbers that are
-/// passed must be in range, and the call takes no memory.
+/// The pairs of the system have the numbers of its [shape](Joint::shape). Services are given by
+/// their places, and actions and states by their numbers. Unless stated otherwise, numbers that are
+/// passed must be in range, and calls allocate no memory.
 pub struct Joint {
     environment: Environment,
     catalogue: Vec<Behaviour>,
@@ -50,7 +50,7 @@ pub struct Joint {
     limit: u32,
 }
 
-// One call. At each exit of a function that owns a joint, a derived drop would be a step for each vector.
+// One call. A derived drop would be a step for each vector at each exit of an owning function.
 impl Drop for Joint {
     fn drop(self) {
         let Joint {
@@ -81,11 +81,12 @@ impl Model for Joint {
 
 impl Joint {
     /// Builds the joint of these parts. The catalogue and the target must be made over this
-    /// environment. There must be at most 32 services with distinct names, whose behaviours are places
-    /// of the catalogue. The limit, from 1 to 16,777,216, is on cells: pairs times actions. Takes the
-    /// memory for 32 services and their moves at once, so later changes take none.
+    /// environment. There must be at most 32 services with distinct names, whose behaviours are
+    /// places of the catalogue. The limit, from 1 to 16,777,216, is on cells: pairs times actions.
+    /// Allocates the memory for 32 services and their moves at once, so later changes allocate
+    /// none.
     ///
-    /// Fails with `Limit` exactly where the cells exceed the limit, and with `Memory` only when out of
+    /// Fails with `Limit` exactly if the cells exceed the limit, and with `Memory` only when out of
     /// memory.
     pub fn build(
         alloc: Global,

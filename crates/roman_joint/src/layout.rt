@@ -26,8 +26,8 @@ pub(crate) struct Layout {
     pub(crate) env_rows: u32,
     /// The number of rows for each state of the target.
     pub(crate) target_rows: u32,
-    /// What one more state of a service adds: rows for a service before the lanes, lanes for one
-    /// within them.
+    /// The stride of each service: the difference between neighbouring states, in rows for a
+    /// service before the lanes, and in lanes for one within them.
     pub(crate) strides: [u32; PLACES],
     /// The number of states of each service.
     pub(crate) sizes: [u8; PLACES],

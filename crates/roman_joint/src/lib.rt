@@ -1,11 +1,11 @@
 //! Joints: an environment, a catalogue of behaviours, a target and the services, as one system with
 //! numbered pairs.
 //!
-//! A joint answers what the system does at a pair: which actions the target allows, whether the
-//! services may rest where the target does, and to which pairs a delegated action can lead. It also
-//! walks backwards over the delegations that can lead to a pair. It gives the same answers for a row
-//! of up to 64 neighbouring pairs at once, as words. Contracts see a joint as a system with its names
-//! (`specs/NamedSys`), and its answers as those of the arena over the numbers of that system's pairs.
+//! At a pair, a joint computes which actions the target allows, whether clause 2 holds, and to
+//! which pairs a delegated action can lead. It also walks backwards over the delegations that can
+//! lead to a pair. For a row of up to 64 neighbouring pairs it computes the same at once, as words.
+//! Contracts see a joint as a system with its names (`specs/NamedSys`), and its results as those of
+//! the arena over the numbers of that system's pairs.
 #![tactic(auto)]
 
 mod attempt;

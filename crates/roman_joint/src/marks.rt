@@ -1,4 +1,4 @@
-//! Marking the bands from which a band can be reached.
+//! Marks the bands from which a band can be reached.
 ghost use Rattle.std.specs.Prelude.{◌≡◌, ℕ, ◌+◌, ◌*◌, ◌^◌, ◌<◌};
 ghost use Rattle.roman_joint.specs.NamedSys.{system_of};
 ghost use Rattle.roman_joint.specs.Rows.{IsRow};
@@ -66,7 +66,7 @@ struct Arrival<'a> {
 }
 
 /// Marks the bands from which the seat `k`, before the band's own, goes to its state in the row.
-/// `base` is the earlier row if the seat kept its state.
+/// `base` is the row before the step, but with the seat in its state after it.
 #[tactic(auto, using(crate::proofs::GoodLemmas::seats_few))]
 fn mark_seat<L: Ledger>(by: &Arrival<'_>, marks: &mut [u64], base: u64, k: u8, steps: &mut Steps<L>)
     requires arrival { IsArrival by.now }
@@ -86,9 +86,9 @@ fn mark_seat<L: Ledger>(by: &Arrival<'_>, marks: &mut [u64], base: u64, k: u8, s
     }
 }
 
-/// Marks the bands at the target's state `t` from which the action leads to the row's band. For a seat
-/// that isn't before the band's own, that is the band in which the seats before the band's own have
-/// the same states.
+/// Marks the bands at the target's state `t` from which the action leads to the row's band. If the
+/// seat that moves isn't before the band's own, this is the band in which the seats before the
+/// band's own have the same states.
 #[tactic(auto, using(crate::proofs::GoodLemmas::target_move_fits))]
 fn mark_target<L: Ledger>(by: &Arrival<'_>, marks: &mut [u64], t: u8, steps: &mut Steps<L>)
     requires { IsArrival by.now }

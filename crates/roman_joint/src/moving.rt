@@ -1,4 +1,4 @@
-//! Clearing the lanes at which a service within the lanes serves an action.
+//! Clears the lanes at which a service within the lanes serves an action.
 ghost use Rattle.std.specs.Prelude.{◌≡◌, ℕ, ◌+◌, ◌<◌, ◌≤◌, length, slice_index};
 ghost use Rattle.roman_model.specs.Lists.{IsIn};
 ghost use Rattle.roman_joint.specs.Moves.{SuitsMoving, LosesMoving};
@@ -9,8 +9,8 @@ use crate::words::each_moves_alive;
 use roman_lanes::{Change, ChangeOf, change_each, load, without};
 use std::simd::prelude::*;
 
-/// Clears, in each word, the lanes of `some` from which all moves lead to lanes of the word of `alive`
-/// at its place.
+/// A change of words: each word loses the lanes of `some` from which all moves lead to lanes of the
+/// word of `alive` at its place.
 #[derive(Clone, Copy)]
 struct Moving<'a> {
     alive: &'a [u64],

@@ -236,7 +236,7 @@ impl Rules for Joint {
     }
 
     fn unserved_band(&self, row: &Row, words: &[u64], a: u8, left: &mut [u64]) {
-        self.known(); // no size is 0, a pair's number fits 32 bits
+        self.known(); // no size is 0, a pair's number fits in 32 bits
         if left.len() == 1 {
             left[0] = self.unserved(row, words, a, left[0]);
             return;
@@ -255,7 +255,7 @@ impl Rules for Joint {
     }
 
     fn mark_before<L: Ledger>(&self, row: &Row, marks: &mut [u64], steps: &mut Steps<L>) {
-        self.known(); // the system is well formed, a pair's number fits 32 bits
+        self.known(); // the system is well formed, a pair's number fits in 32 bits
         for a in 0..self.environment().actions().len() as u8 {
             mark_action(self, row, marks, a, steps);
         }

@@ -5,19 +5,19 @@ ghost use Rattle.roman_model.specs.Lists.{IsIn};
 ghost use Rattle.roman_joint.specs.Outcomes.{outcome_number, outcome_numbers, AllOutcomes};
 
 /// The pairs to which an action that is delegated to a service can lead. For each state e of `envs`
-/// and each state b of `states` it is the pair with the number `base + e * env_stride + b * stride`.
-/// There is no pair where `states` is empty.
+/// and each state b of `states` it is the pair with the number
+/// `base + e * env_stride + b * stride`. There is no pair if `states` is empty.
 #[derive(Clone, Copy)]
 pub struct Outcomes<'a> {
     /// The number of the pair with both states 0, if there is an outcome.
     pub base: u32,
     /// The environment's next states, in rising order.
     pub envs: &'a [u8],
-    /// What one more state of the environment adds to a pair's number.
+    /// The difference of the numbers for neighbouring states of the environment.
     pub env_stride: u32,
     /// The service's next states, in rising order.
     pub states: &'a [u8],
-    /// What one more state of the service adds to a pair's number.
+    /// The difference of the numbers for neighbouring states of the service.
     pub stride: u32,
 }
 

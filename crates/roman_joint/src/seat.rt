@@ -11,7 +11,7 @@ pub struct Seat {
     pub behaviour: u8,
     /// Whether the service takes no delegations for now.
     pub frozen: bool,
-    /// Whether the service's state must be final wherever the target's is. If not, the service is
+    /// Whether the service's state must be final whenever the target's is. If not, the service is
     /// loose.
     pub rests: bool,
 }

@@ -39,7 +39,7 @@ pub(crate) fn sizes_of_seats(catalogue: &[Behaviour], seats: &[Seat]) -> [u8; PL
     sizes
 }
 
-/// Returns the numbering of the system's pairs, or `None` exactly where the system has more cells than
+/// Returns the numbering of the system's pairs, or `None` exactly if the system has more cells than
 /// the limit.
 pub(crate) fn shape_of(parts: &Parts<'_>, limit: u32) -> Option<Shape>
     requires catalogue { All (IsOverEnv parts.now.environment.now) parts.now.catalogue.now }

@@ -58,7 +58,7 @@ pub(crate) fn service(joint: &Joint, k: u8) -> (&Seat, &Behaviour)
     (seat, &joint.catalogue()[seat.behaviour as usize])
 }
 
-/// Returns the states to which a service goes from state `b`. Returns none if it is frozen.
+/// Returns the states to which a service goes from state `b`. Returns no state if it is frozen.
 #[inline(always)]
 pub(crate) fn next_states<'a>(joint: &'a Joint, k: u8, b: u8, e: u8, a: u8) -> &'a [u8]
     requires seat { k < length joint.now.seats }
@@ -75,7 +75,7 @@ pub(crate) fn next_states<'a>(joint: &'a Joint, k: u8, b: u8, e: u8, a: u8) -> &
     behaviour.out(b, e, a)
 }
 
-/// Returns the states from which a service goes to state `b`. Returns none if it is frozen.
+/// Returns the states from which a service goes to state `b`. Returns no state if it is frozen.
 pub(crate) fn prev_states<'a>(joint: &'a Joint, k: u8, b: u8, e: u8, a: u8) -> &'a [u8]
     requires seat { k < length joint.now.seats }
     requires state { b < seat_states joint.now k }

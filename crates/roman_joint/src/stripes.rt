@@ -1,4 +1,4 @@
-//! Stripes: the words of neighbouring rows, combined word by word.
+//! Stripes: the words of neighbouring rows, which are combined word by word.
 ghost use Rattle.std.specs.Prelude.{◌≡◌, ◌≢◌, ◌↔◌, IsTrue, ℕ, ◌+◌, ◌-◌, ◌*◌, ◌/◌, ◌%◌, ◌<◌, ◌≤◌, not, ◌&&◌, false, length, slice_index, bit_and};
 ghost use Rattle.std.specs.List.{list_any};
 ghost use Rattle.roman_lanes.specs.Rows.{is_on};
@@ -102,8 +102,8 @@ pub(crate) fn clear_alive(left: &mut [u64], words: &[u64], rows: &Outcomes<'_>, 
     less(left, &words[from..]);
 }
 
-/// Clears, in the word at place i, the lanes that are set in all words `from + i + b * stride` of
-/// `alive`, for each state b.
+/// A change of words: the word at place i loses the lanes that are set in all words
+/// `from + i + b * stride` of `alive`, for each state b.
 #[derive(Clone, Copy)]
 pub(crate) struct Stripe<'a> {
     pub(crate) alive: &'a [u64],

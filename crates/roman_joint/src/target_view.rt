@@ -1,4 +1,5 @@
-//! Target views: the actions that the target and the environment allow, whatever the services do.
+//! Target views: the actions that the target and the environment allow. They don't depend on
+//! services.
 ghost use Rattle.std.specs.Prelude.{◌≡◌, ℕ, ◌<◌, [], IsFalse, IfOk};
 ghost use Rattle.roman_model.specs.Lists.{IsIn};
 ghost use Rattle.roman_model.specs.SystemArena.{env_prev, beh_prev};
@@ -17,7 +18,7 @@ pub(crate) struct TargetView {
     pub(crate) env: u8,
     /// The actions that are allowed there.
     pub(crate) allowed: u32,
-    /// The actions that can lead there. An action outside this set doesn't.
+    /// The actions that may lead there. An action outside this set doesn't lead there.
     pub(crate) leading: u32,
 }
 

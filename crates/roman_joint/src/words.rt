@@ -1,4 +1,4 @@
-//! Words of lanes: combining the words of several rows.
+//! Combines the words of several rows.
 ghost use Rattle.std.specs.Prelude.{◌≡◌, ℕ, ◌+◌, ◌-◌, ◌*◌, ◌<◌, ◌≤◌, false, not, true, ◌&&◌, ◌||◌, length, slice_index};
 ghost use Rattle.std.specs.List.{list_any};
 ghost use Rattle.roman_model.specs.Lists.{IsIn};

@@ -33,7 +33,7 @@ AreCounted-push lanes count firsts es e are some = grind (arith, (all_push (IsBa
 
 -- ---- a batch with more lanes
 
--- the batch with the lanes of another
+-- the batch, with the lanes of another one added
 abbrev pub extended : Batch → Batch → Batch
 extended e d = record e { lanes = bit_or e.lanes d.lanes }
 
@@ -44,11 +44,11 @@ extended_lanes e d takes = set_lanes-joined _ _ _ (λ i l. on_or e.lanes d.lanes
 pub last_is : (es : List Batch) (e d : Batch) → Some d ≡ slice_get (es ++ e ∷ []) (length (es ++ e ∷ []) - 1) → d ≡ e
 last_is es e d read = grind (arith, length-append, (slice_get-get_or (es ++ e ∷ []) (length es) e), (get_or-append_seam es e [] e))
 
--- its entries are followed by those of the other batch
+-- the entries of an extended batch are its own, followed by those of the other batch
 pub entries_of-extended : (lanes : ℕ) (es : List Batch) (e d : Batch) → TakesLanes e d → entries_of lanes (es ++ extended e d ∷ []) ≡ entries_of lanes (es ++ e ∷ []) ++ entries_at lanes d
 entries_of-extended lanes es e d takes = rw (← takes.row, ← takes.why, entries_of-push, entries_of-push, extended_lanes e d takes) (grind (arith, append_assoc, map-append))
 
--- another last element
+-- a property of all elements still holds after the last one is replaced
 all_last : {X : Type 0} (P : X → Type 0) (xs : List X) (x y : X) → AllByRecursion P (xs ++ x ∷ []) → (P x → P y) → AllByRecursion P (xs ++ y ∷ [])
 all_last P [] x y all f = (f all.0, tt)
 all_last P (z ∷ xs) x y all f = (all.0, all_last P xs x y all.1 f)

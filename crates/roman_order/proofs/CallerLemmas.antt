@@ -1,4 +1,4 @@
--- What the proofs of other crates may cite of this one. All else in proofs/ can be renamed freely.
+-- The lemmas of this crate that proofs of other crates may cite. All else in proofs/ can be renamed freely.
 
 -- The lanes of a word, and the entries of the pairs at them.
 pub use Rattle.roman_order.proofs.Lanes.{entries_in_rows-row, has_entry-lane, has_entry-later, in_lanes, lane_place, lanes_once, none_below, on_in, on_lowered, one_pow, set_lanes-joined}

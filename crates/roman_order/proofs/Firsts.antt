@@ -10,23 +10,23 @@ length-places_of many later few = grind (arith, length-append, length-below)
 pub few_firsts : (lanes n : ℕ) (later : List ℕ) (es : List Batch) → AreCounted lanes n (places_of (length es) later) es → length later ≤ length es
 few_firsts lanes n later es are = omega (arith, ap length are.firsts, length-append (below (length es - length later)) later, length-firsts_of 0 es)
 
--- a place that is left out
+-- a place that the table leaves out equals its number
 pub first_alone : (many j d : ℕ) (later : List ℕ) → j < many - length later → get_or (places_of many later) j d ≡ j
 first_alone many j d later l = grind (arith, get_or_append_left, get_or-below, length-below)
 
--- a place of the table
+-- a later place is one of the table
 pub first_later : (many j d : ℕ) (later : List ℕ) → many - length later ≤ j → get_or (places_of many later) j d ≡ get_or later (j - (many - length later)) d
 first_later many j d later l = get_or-append_right (below (many - length later)) later (many - length later) j d (length-below (many - length later)) l
 
--- the place after the last batch
+-- past the last batch there is no place, so the default is read
 pub first_past : (many j count : ℕ) (later : List ℕ) → length later ≤ many → many ≤ j → count ≡ get_or (places_of many later) j count
 first_past many j count later few l = sym (get_or_past (places_of many later) j count (rw (length-places_of many later few) l))
 
--- a place of a batch, whatever is said for others
+-- the place of a batch doesn't depend on the default
 pub first_any : (many j d count : ℕ) (later : List ℕ) → length later ≤ many → j < many → get_or (places_of many later) j d ≡ get_or (places_of many later) j count
 first_any many j d count later few l = get_or_default (places_of many later) j d count (rw (length-places_of many later few) l)
 
--- a place that is left out is one more that equals its number
+-- with an empty table, one more batch has one more place that the table leaves out
 pub places_of-alone : (many : ℕ) (later : List ℕ) → length later ≡ 0 → places_of (many + 1) later ≡ places_of many later ++ many ∷ []
 places_of-alone many later e = grind (arith, append-nil, append_assoc, (nil_from_length later e))
 

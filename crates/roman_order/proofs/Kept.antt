@@ -8,7 +8,7 @@ pub apart_words : (word other lane : ℕ) → bit_and word other ≡ 0 → is_on
 apart_words word other lane none on =
     false_from_ne_true (is_on word lane) (λ t. both_ways (is_on (bit_and word other) lane) (ap (λ w. is_on w lane) none ∙ on_zero lane) (on_and word other lane ∙ and_from (is_on word lane) (is_on other lane) t on))
 
--- the entries of a batch that has no lane in its row's word
+-- the entries of a batch whose row's kept word has none of its lanes
 entry_unkept : (lanes : ℕ) (words : List ℕ) (e : Batch) (x : Entry ℕ) → IsBatch lanes e → IsApart words e → IsIn x (entries_at lanes e) → is_on (slice_index words (x.node / lanes)) (x.node % lanes) ≡ false
 entry_unkept lanes words e x is apart i =
     let (lane, among, same) = from_map (λ (l : ℕ). as_entry (e.row * lanes + l, e.reason)) x (set_lanes e.lanes) i in
@@ -25,7 +25,7 @@ apart_more words es from j d l h own rest x i lane on =
     let place : from + (j - from) ≡ j = omega (arith, l) in
     grind (arith, (from_push x (get_or es j d) (take (j - from) (drop from es))), (get_or-drop from es (j - from) d), (take-suc (drop from es) (j - from) d), (length-drop from es))
 
--- what is known of the entries from place i to place m of the list, once their batches were passed over
+-- the entries from place i to place m of the list have no bits in the kept words, once their batches are passed over
 pub passed_over : (a : Inside) (near j i m : ℕ) → IsSound a → near ≤ j → j ≤ length a.batches.items → i ≡ get_or (places_of (length a.batches.items) a.firsts.items) near a.count → m ≡ get_or (places_of (length a.batches.items) a.firsts.items) j a.count →
     ((e : Batch) → IsIn e (take (j - near) (drop near a.batches.items)) → IsApart a.before.items e) → AreUnkept (board_of a) i m
 passed_over a near j i m sound l h start end apart =

@@ -3,7 +3,7 @@ use Rattle.roman_order.proofs.Common.{◌≡◌, ◌≢◌, ℕ, zero, suc, ◌+
 
 -- ---- the first lane of a word, and the rest
 
--- none of the numbers up to m passes
+-- no number below m passes
 pub none_below : (q : ℕ → Bool) (m : ℕ) → ((i : ℕ) → i < m → q i ≡ false) → filter q (below m) ≡ []
 none_below q zero off = refl
 none_below q (suc m) off = rw (filter_below_more q m, none_below q m (λ i l. off i (omega arith)), off m (omega arith)) refl
@@ -38,9 +38,9 @@ without_first n t low on before = grind (arith, on_clear_other, on_clear_same)
 pub without_lane-on : (n t lane : ℕ) → is_on (without_lane n t) lane ≡ true → is_on n lane ≡ true
 without_lane-on n t lane on = (and_parts (is_on n lane) (is_on (bit_not w64 (1 * 2 ^ t % 2 ^ 64)) lane) (sym (on_and n _ lane) ∙ on)).0
 
--- ---- a word of lanes that stand before others
+-- ---- a word whose lanes are those of two others, the lower ones first
 
--- the numbers that pass one test or the other, where those of the first stand before those of the second
+-- the numbers that pass one of two tests, if those that pass the first come before those that pass the second
 filter-joined : (p q both : ℕ → Bool) (m : ℕ) → ((i : ℕ) → i < m → both i ≡ (p i || q i)) → ((i j : ℕ) → p i ≡ true → q j ≡ true → i < j) → filter both (below m) ≡ filter p (below m) ++ filter q (below m)
 filter-joined p q both zero is lower = refl
 filter-joined p q both (suc m) is lower =
@@ -48,17 +48,17 @@ filter-joined p q both (suc m) is lower =
     let alone = λ (on : p m ≡ true). none_below q m (λ i l. false_from_ne_true (q i) (λ t. omega (arith, l, lower m i on t))) in
     grind (arith, cases_Bool, append-nil, append_assoc, filter_below_more, (is m), rest, alone)
 
--- the lanes of a word that has those of two others, of which the lanes of the first are lower
+-- the lanes of a word that has those of two others, if the lanes of the first are lower
 pub set_lanes-joined : (word low high : ℕ) → ((i : ℕ) → i < 64 → is_on word i ≡ (is_on low i || is_on high i)) → ((i j : ℕ) → is_on low i ≡ true → is_on high j ≡ true → i < j) → set_lanes word ≡ set_lanes low ++ set_lanes high
 unfolding set_lanes
 set_lanes-joined word low high is lower = filter-joined (is_on low) (is_on high) (is_on word) 64 is lower
 
--- a lane above the first t, as it is computed
+-- the lanes of a word that is shifted down
 pub on_lowered : (a d i : ℕ) → is_on (a / 2 ^ d) i ≡ is_on a (d + i)
 unfolding is_on
 on_lowered a d i = ap (λ n. eqb n 1) (sym (shr_and_one (a / 2 ^ d) i) ∙ (ap (λ n. bit_and n 1) (shr-shr a d i) ∙ shr_and_one a (d + i)))
 
--- a word that has nothing from the first lane of another on has lower lanes
+-- a word without bits from the first lane of another word on has only lower lanes
 pub all_lower : (word more t i j : ℕ) → word / 2 ^ t ≡ 0 → ((bit : ℕ) → bit < t → is_on more bit ≡ false) → is_on word i ≡ true → is_on more j ≡ true → i < j
 all_lower word more t i j none first on there = grind (arith, both_ways, cases_lt, on_zero, first, (on_lowered word t (i - t)))
 
@@ -126,7 +126,7 @@ has_entry-lane L first lost lane reason low =
     subst (λ j. IsTrue (is_on lost j)) same (filter_in (is_on lost) l (below 64) i).1)
     (λ t. any_from (λ l. eqb (first + lane) (first + l)) lane (set_lanes lost) (on_in lost lane low t) (eq-eqb (first + lane) (first + lane) refl)))
 
--- another pair is listed if it was before
+-- a pair that isn't one of the added pairs is listed if it was before
 pub has_entry-elsewhere : (L : List (Entry ℕ)) (first lost p : ℕ) (reason : Reason) → ((lane : ℕ) → lane < 64 → is_on lost lane ≡ true → p ≢ first + lane) →
     has_entry (L ++ map (λ l. as_entry (first + l, reason)) (set_lanes lost)) p ≡ has_entry L p
 has_entry-elsewhere L first lost p reason apart = grind (arith, has_entry-lanes, in_lanes, ne_eqb, none_from, or-false)

@@ -5,7 +5,7 @@ use Rattle.roman_order.proofs.Common.{◌≡◌, ℕ, ◌%◌, ◌^◌, ◌<◌,
 ones_before : (word lane : ℕ) → count_ones (word % 2 ^ lane) ≡ length (filter (is_on word) (below lane))
 ones_before word lane = low_ones word lane ∙ (sum_by_same (bit_at word) (λ l. cond (is_on word l) 1 0) (below lane) (λ l i. bit_is word l) ∙ sym (length-filter (is_on word) (below lane)))
 
--- that number, as the code counts it
+-- the number of lanes below a lane, as the code counts it
 pub ones_below : (word lane : ℕ) → lane < 64 → count_ones (bit_and word (1 * 2 ^ lane % 2 ^ 64 - 1)) ≡ length (filter (is_on word) (below lane))
 ones_below word lane l = grind (arith, (and_mask word lane), (ones_before word lane), (pow-lt l))
 

@@ -1,4 +1,4 @@
--- Adding entries to a list.
+-- Entries that are added to a list.
 use Rattle.roman_order.proofs.Common.{◌≡◌, ℕ, ◌+◌, ◌*◌, ◌<◌, false, List, [], ◌∷◌, ◌++◌, map, sym, ◌∙◌, subst, inl, inr, refl, arith, append_assoc, append-nil, Entry, IsIn, HasNoRepeats, Reason, as_entry, has_entry, IsPlaced, mul-add-lt}
 use Rattle.roman_order.proofs.Places.{IsPlaced-push, has_entry-push_other}
 

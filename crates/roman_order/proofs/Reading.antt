@@ -7,11 +7,11 @@ use Rattle.roman_order.proofs.Batches.{entries_of-push, length-firsts_of, fewer,
 
 -- ---- lists
 
--- what follows the front of the rest of a list
+-- the rest of a list after a part of its rest
 drop_past : {X : Type 0} (xs ys zs : List X) (i : ℕ) → drop i xs ≡ ys ++ zs → drop (i + length ys) xs ≡ zs
 drop_past xs ys zs i e = sym (drop-drop (length ys) i xs) ∙ (ap (drop (length ys)) e ∙ drop-append_seam ys zs)
 
--- what follows an element
+-- the rest of a list after an element
 pub drop_next : {X : Type 0} (xs : List X) (i : ℕ) (x : X) (ys : List X) → drop i xs ≡ x ∷ ys → drop (i + 1) xs ≡ ys
 drop_next xs i x ys e = drop_past xs (x ∷ []) ys i e
 
@@ -94,7 +94,7 @@ first_begins lanes (e ∷ es) some = (omega arith, refl)
 pub begins : (a : Inside) (b : Board) (i : ℕ) → board_of a ≡ b → IsSound a → i < length b.list → (0 < length a.batches.items) × (get_or (places_of (length a.batches.items) a.firsts.items) 0 0 ≡ 0)
 begins a b i is sound low = grind (arith, first_begins, length-firsts_of)
 
--- the batch at place j has the entry at place i, where no later batch begins at place i or before
+-- the batch at place j has the entry at place i, if no later batch begins at place i or before
 pub found : (a : Inside) (b : Board) (j i first : ℕ) (e : Batch) → board_of a ≡ b → IsSound a → i < length b.list → j < length a.batches.items → drop j a.batches.items ≡ e ∷ drop (j + 1) a.batches.items →
     first ≡ get_or (places_of (length a.batches.items) a.firsts.items) j 0 → first ≤ i → (j + 1 < length a.batches.items → i < get_or (places_of (length a.batches.items) a.firsts.items) (j + 1) 0) → IsBatchOf b.rows b.lanes b.list i first e
 found a b j i first e is sound low h split read from to =
@@ -122,7 +122,7 @@ pub ruleset batch_rules = (few, fewer, length-drop)
 
 -- ---- the first waiting entry
 
--- the first waiting batch e begins with the entry of the lane, and waits on with the lanes of `left`
+-- the first waiting batch e begins with the entry of the lane, and its other lanes are those of `left`
 pub record IsFirst (a : Inside) (e : Batch) (lane left : ℕ) : Type 0 where
   pub fits : e.row * a.waiting_lanes + lane < 2 ^ 32
   pub first : entries_of a.waiting_lanes (drop a.next a.waiting.items) ≡ as_entry (e.row * a.waiting_lanes + lane, e.reason) ∷ entries_of a.waiting_lanes (later e left ∷ drop (a.next + 1) a.waiting.items)

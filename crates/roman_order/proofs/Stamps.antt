@@ -26,7 +26,7 @@ pub with_stamps-lanes : (first : ℕ) (reason : Reason) (i : ℕ) (ls : List ℕ
 with_stamps-lanes first reason i [] L stamps = let same : i ≡ i + 0 = omega arith in ap (λ j. with_stamps j (nodes_of L) stamps) same
 with_stamps-lanes first reason i (l ∷ ls) L stamps = grind (arith, (with_stamps-lanes first reason (i + 1) ls L (set stamps (first + l) i)))
 
--- a number that no element is has no place
+-- a number that isn't an element has no place
 no_place : (p i : ℕ) (ps : List ℕ) → AllByRecursion (λ q. eqb p q ≡ false) ps → position_from (eqb p) i ps ≡ None
 no_place p i [] off = refl
 no_place p i (q ∷ ps) off = rw (off.0, no_place p (i + 1) ps off.1) refl
@@ -56,7 +56,7 @@ has_entry-batch lanes e x lane few low is = elim (cases_eq e.row x) [
       ∙ ap (λ b. b && is_on e.lanes lane) (sym (ne_eqb e.row x ne))
 ]
 
--- none of the entries for the lanes up to a lane is that of its pair
+-- the entries for the lanes below a lane don't name the pair of that lane
 none_at : (lanes : ℕ) (e : Batch) (lane : ℕ) → list_any (λ (y : Entry ℕ). eqb (e.row * lanes + lane) y.node) (map (λ l. as_entry (e.row * lanes + l, e.reason)) (filter (is_on e.lanes) (below lane))) ≡ false
 none_at lanes e lane =
     let test = λ (l : ℕ). eqb (e.row * lanes + lane) (e.row * lanes + l) in
@@ -72,7 +72,7 @@ place_below lanes e lane i (suc m) L low on =
     let last : List (Entry ℕ) = map (λ l. as_entry (e.row * lanes + l, e.reason)) (cond (is_on e.lanes m) (m ∷ []) []) in
     grind (arith, cases_eq, append_assoc, eq-eqb, filter_below_more, length-map, map-append, position_from-past, none_at, (place_below lanes e lane i m (last ++ L)))
 
--- the search for the pair of a lane of a batch gives the number of lanes before it
+-- the search for the pair of a lane of a batch returns the number of lanes before it
 pub place_in_batch : (lanes : ℕ) (e : Batch) (lane i : ℕ) (L : List (Entry ℕ)) → lane < 64 → is_on e.lanes lane ≡ true →
     position_from (λ (y : Entry ℕ). eqb (e.row * lanes + lane) y.node) i (entries_at lanes e ++ L) ≡ Some (i + length (filter (is_on e.lanes) (below lane)))
 unfolding set_lanes

@@ -52,7 +52,7 @@ pub ruleset stamp_rules = (few, few_listed, place_in_list-from_greatest)
 
 -- ---- the entries of a batch
 
--- what is known once the pairs of a batch are listed
+-- the facts after the pairs of a batch are listed
 pub record IsPushed (a : Inside) (e : Batch) : Type 0 where
   pub placed : IsPlaced (a.rows * a.lanes) (removal_list a ++ entries_at a.lanes e)
   pub batch : IsBatch a.lanes e

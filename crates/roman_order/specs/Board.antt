@@ -1,4 +1,4 @@
--- What callers see of an order: the removal list, the waiting entries, and the tables beside them.
+-- Orders as callers see them: the removal list, the waiting entries, and the tables beside them.
 use Rattle.std.specs.Prelude.{◌≡◌, true, false, ℕ, ◌+◌, ◌*◌, ◌/◌, ◌%◌, ◌==◌, Bool, List, Option, map, flat_map, slice_index}
 use Rattle.std.specs.List.{list_any, position_from, filter}
 use Rattle.roman_model.specs.Lists.{below}

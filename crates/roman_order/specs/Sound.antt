@@ -1,4 +1,4 @@
--- How the tables of an order represent what callers see.
+-- How the tables of an order represent its board.
 use Rattle.std.specs.Prelude.{◌≡◌, ℕ, ◌+◌, ◌-◌, ◌*◌, ◌/◌, ◌^◌, ◌<◌, ◌≤◌, ◌==◌, not, true, List, [], ◌∷◌, ◌++◌, drop, length, unwrap_or, slice_index, slice_set, vec_capacity}
 use Rattle.std.specs.List.{IsDistinct, AllByRecursion}
 use Rattle.roman_model.specs.Arena.{Entry}
@@ -17,7 +17,7 @@ removal_list a = entries_of a.lanes a.batches.items
 abbrev pub waiting_list : Inside → List (Entry ℕ)
 waiting_list a = entries_of a.waiting_lanes (drop a.next a.waiting.items)
 
--- what callers see of the tables
+-- the board that the tables represent
 abbrev pub board_of : Inside → Board
 board_of a = record {
   cap_pairs = a.room;
@@ -31,7 +31,7 @@ board_of a = record {
   levels = a.levels.items;
 }
 
--- the place of the pair in the list, or the greatest stamp where it isn't listed
+-- the place of the pair in the list, or the greatest stamp if it isn't listed
 abbrev pub stamp_of : List (Entry ℕ) → ℕ → ℕ
 stamp_of L p = unwrap_or (place_in_list L p) (2 ^ 32 - 1)
 
@@ -44,17 +44,17 @@ pub record IsPlaced (pairs : ℕ) (L : List (Entry ℕ)) : Type 0 where
 abbrev pub AreStamps : List (Entry ℕ) → List ℕ → Type 0
 AreStamps L stamps = (p : ℕ) → p < length stamps → slice_index stamps p ≡ stamp_of L p
 
--- the table after i, i + 1 and so on were written at the given places
+-- the table after i, i + 1 and so on are written at the given places
 abbrev pub with_stamps : ℕ → List ℕ → List ℕ → List ℕ
 with_stamps i [] stamps = stamps
 with_stamps i (p ∷ ps) stamps = with_stamps (i + 1) ps (slice_set stamps p i)
 
--- the place of each batch's first entry, where n entries stand before the first
+-- the place of each batch's first entry, if n entries come before the first batch
 abbrev pub firsts_of : ℕ → List Batch → List ℕ
 firsts_of n [] = []
 firsts_of n (e ∷ es) = n ∷ firsts_of (n + length (set_lanes e.lanes)) es
 
--- the places of the first entries of so many batches: first those that equal their numbers, which the table leaves out, then the table's
+-- the places of the first entries of so many batches: first those that equal their numbers, which the table leaves out, then those of the table
 abbrev pub places_of : ℕ → List ℕ → List ℕ
 places_of many later = below (many - length later) ++ later
 

@@ -9,7 +9,7 @@ use roman_model::Reason;
 /// The entries that a pass through the list has read ahead: the next ones of one batch.
 #[derive(Clone, Copy)]
 pub struct Ahead {
-    // the rest of a batch
+    // the remaining entries of a batch
     pub(crate) batch: Batch,
     // a guess of the place of the next batch; a wrong guess costs a search
     pub(crate) next: usize,

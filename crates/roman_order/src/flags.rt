@@ -67,8 +67,8 @@ fn fill_front(words: &mut [u64], many: usize)
     words[..many].fill(u64::MAX);
 }
 
-/// Returns the place of the next of the first `many` words with a set flag, from `from` on, then from
-/// the start. Returns `None` exactly where all of these words are 0.
+/// Searches the first `many` words for one that isn't 0, from place `from` on, and then from the
+/// start. Returns its place, or `None` exactly if all of these words are 0.
 pub(crate) fn next_word(words: &[u64], many: usize, from: usize) -> Option<usize>
     requires { many ≤ length words.now }
     ensures none { IfNone result ((i : ℕ) → i < many → slice_index words.now i ≡ 0) }
@@ -82,7 +82,7 @@ pub(crate) fn next_word(words: &[u64], many: usize, from: usize) -> Option<usize
     first_set(&front[..start], 0)
 }
 
-/// Returns the lowest set bit of a word. Requires a word that isn't 0.
+/// Returns the number of the lowest set bit of a word. Requires a word that isn't 0.
 pub(crate) fn lowest(word: u64) -> u32
     requires { word ≢ 0 }
     ensures within { result < 64 }
@@ -106,7 +106,7 @@ pub(crate) fn first_lane(word: u64) -> (u32, u64)
     (lane, word & !(1 << lane))
 }
 
-/// Returns the number of lanes of a word: of its set bits.
+/// Returns the number of set bits of a word.
 #[tactic(auto, using(crate::proofs::Ones::ones_of))]
 pub(crate) fn lanes_in(word: u64) -> u32
     ensures { result ≡ length (set_lanes word) }

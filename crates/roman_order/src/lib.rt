@@ -2,11 +2,11 @@
 //! one word for each row, marks, and, after [`Order::place_all`], each pair's place in the list.
 //!
 //! Pairs lie in rows of up to 64 neighbours: pair p is lane `p % lanes` of row `p / lanes`.
-//! [`Order::build`] and a copy reserve all tables at once; no other call takes memory. A table is at
-//! most as long as the present shape needs, except for the waiting entries, which are those of an
-//! earlier shape, and the levels. The list can be reopened: its entries then wait, and are taken one
-//! after another while a new list begins. The definitions are in `specs/`: what contracts see of an
-//! order (`Board`), and how its tables represent it (`Sound`).
+//! [`Order::build`] and a copy reserve all tables at once; no other call allocates memory. A table
+//! is at most as long as the present shape needs. Exceptions are the levels, and the waiting
+//! entries, which belong to an earlier shape. The list can be reopened: its entries then wait, and
+//! are taken one after another while a new list begins. `specs/Board` defines what contracts see of
+//! an order, and `specs/Sound` how its tables represent that.
 #![tactic(auto)]
 
 mod ahead;

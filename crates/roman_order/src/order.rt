@@ -25,8 +25,8 @@ use std::mem;
 /// The number of items of a table that are written at once.
 const PIECE: usize = 256;
 
-/// The removal list of a system's pairs, the pairs that aren't listed as words, marks, and, if asked
-/// for, each pair's place in the list.
+/// The removal list of a system's pairs, the pairs that aren't listed as words, marks, and, on
+/// request, each pair's place in the list.
 ///
 /// An order is shaped for a number of rows and lanes: pair p is lane `p % lanes` of row `p / lanes`.
 /// Pairs and rows that are passed must be in range for this shape. The shape has at most as many pairs
@@ -42,7 +42,7 @@ pub struct Order {
     // batches
     next: usize,
     waiting_lanes: u32,
-    // where the search for marks continues
+    // the word at which the search for marks continues
     cursor: usize,
     // the list; each batch has lanes
     batches: Vec<Batch>,
@@ -59,7 +59,7 @@ pub struct Order {
     levels: Vec<u32>,
 }
 
-// One call. At each exit of a function that owns an order, a derived drop would be a step for each vector.
+// One call. A derived drop would be a step for each vector at each exit of an owning function.
 impl Drop for Order {
     fn drop(self) {
         let Order {
@@ -98,7 +98,7 @@ impl Order {
     /// Makes an order for at most `cap_pairs` pairs, shaped for no rows. Reserves room for as many
     /// entries, for as many waiting entries, and for words, kept words, places, marks and levels.
     /// Writes none of it, so the pages of unused room stay untouched. No other call but
-    /// [`copy`](Order::copy) takes memory.
+    /// [`copy`](Order::copy) allocates memory.
     ///
     /// Fails only when out of memory.
     pub fn build(alloc: Global, cap_pairs: u32) -> Result<Order, AllocError>
@@ -162,7 +162,7 @@ impl Order {
     }
 
     /// Makes this order equal to `from`, in one pass over the contents of its tables, whatever
-    /// their capacity. Requires that `from` has the same room and no waiting entries. Takes no
+    /// their capacity. Requires that `from` has the same room and no waiting entries. Allocates no
     /// memory.
     #[tactic(auto, using(crate::proofs::Tables::reset_rules))]
     pub fn reset_to(&mut self, from: &Order)
@@ -255,7 +255,7 @@ impl Order {
     }
 
     /// Takes the first waiting entry: a pair of the shape before the order was reopened, with its
-    /// reason. Returns `None` exactly where no entry waits.
+    /// reason. Returns `None` exactly if no entry waits.
     #[tactic(auto, using(crate::proofs::Reading::waiting_rules))]
     pub fn next_waiting(&mut self) -> Option<(u32, Reason)>
         ensures none { IfNone result ((self.old.waiting ≡ []) × (self.new ≡ self.old)) }
@@ -280,7 +280,7 @@ impl Order {
     }
 
     /// Takes the waiting entries of the first batch together, as a batch of the shape before the
-    /// order was reopened. Returns `None` exactly where no entry waits.
+    /// order was reopened. Returns `None` exactly if no entry waits.
     #[tactic(auto, using(crate::proofs::Batches::rest_waits))]
     pub fn next_waiting_batch(&mut self) -> Option<Batch>
         ensures none { IfNone result ((self.old.waiting ≡ []) × (self.new ≡ self.old)) }
@@ -351,8 +351,8 @@ fn copied<T: Copy>(alloc: Global, items: &[T], room: usize) -> Result<Vec<T>, Al
     Ok(table)
 }
 
-/// Replaces the items of a table, which must have room for the new ones. Copies them piece by piece:
-/// glibc copies longer pieces by `rep movsb`, which a count of instructions takes byte by byte.
+/// Replaces the items of a table, which must have room for the new ones. Copies them piece by
+/// piece: glibc copies longer pieces by `rep movsb`, which counts as one instruction for each byte.
 #[tactic(auto, using(crate::proofs::Tables::piece_rules))]
 fn rewrite<T: Copy + Drop>(table: &mut Vec<T>, items: &[T])
     requires { length items.now ≤ vec_capacity table.old }
@@ -370,9 +370,9 @@ fn rewrite<T: Copy + Drop>(table: &mut Vec<T>, items: &[T])
     }
 }
 
-/// Replaces the items of a table by `n` copies of a value. Requires room for them. Writes them piece
-/// by piece: glibc fills longer pieces by `rep stosb`, which a count of instructions takes byte by
-/// byte.
+/// Replaces the items of a table by `n` copies of a value. Requires room for them. Writes them
+/// piece by piece: glibc fills longer pieces by `rep stosb`, which counts as one instruction for
+/// each byte.
 #[tactic(auto, using(crate::proofs::Tables::piece_rules))]
 fn refill<T: Copy + Drop>(table: &mut Vec<T>, n: usize, value: T)
     requires { n ≤ vec_capacity table.old }

@@ -39,13 +39,13 @@ pub gives_more : (L : List (Entry ℕ)) (start i n p : ℕ) (old now : List ℕ)
     GivesLevel L start i n old now → GivesLevel L start (i + 1) n old (set now p n)
 gives_more L start i n p old now from at l gives = grind (arith, cases_eq, get_or-set_other, get_or-set_same)
 
--- a prefix of what is written back
+-- a prefix of the table that is written back
 pub front_is : (n : ℕ) (xs ys : List ℕ) → length xs ≡ n → take n (xs ++ ys) ≡ xs
 front_is n xs ys e = ap (λ m. take m (xs ++ ys)) (sym e) ∙ take-append_seam xs ys
 
 -- ---- levels
 
--- where level n starts
+-- the place at which level n begins
 abbrev pub start_of : List ℕ → ℕ → ℕ
 start_of levels zero = 0
 start_of levels (suc n) = slice_index levels n

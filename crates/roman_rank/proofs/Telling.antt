@@ -1,4 +1,4 @@
--- What a table of depths states about its system.
+-- The facts that a table of depths states about its system.
 use Rattle.roman_rank.proofs.Common.{◌≡◌, ◌≢◌, ℕ, suc, ◌+◌, ◌-◌, ◌^◌, ◌<◌, ◌≤◌, ◌==◌, cond, List, [], ◌++◌, length, drop, get_or, slice_index, Some, inl, inr, refl, sym, ap, ◌∙◌, subst, arith, add-one, count_by, both_ways, cases_lt, cond-true, cond-false, eqb-true, eq-eqb, ne_eqb, not_from_false, get_or_past, below, loses, sizes_of, count, pair_at, by_test, related_great, numbers_are_pairs, numbered_loses, IsRank, AreRanks, level_lines, none-some, IsLeast, Counts, ◌⊎◌, ◌↔◌, filter, Option, None, Result, ap₂, append_assoc, append-nil, drop-cons, IfSome, cases_order, length-filter, Puts, Sys, Pair, IsSys, IsPair, pairs, arena, couple, Great, number, numbered, DepthPlayWins, in_filter, filter_in, HasNoRepeats-filter, depth_won, depth_least, great_holds, lost_fails, unlost_holds, in_pairs, from_pairs, pairs_once, sum_over_pairs, IsDepth, IsGreatest, depth_in, AreDepths, IsRanking, head_lines, level_line, last_lines, TellsDepths, PutsDepths}
 use Rattle.roman_rank.proofs.Tallies.{count_places, count_there, count_place}
 
@@ -38,7 +38,7 @@ least_once s p m n one two = elim (cases_order m n) [
 
 -- ---- counts
 
--- the pairs with a property are as many as a number occurs in the table, where it stands at their places
+-- as many pairs have a property as a number occurs in the table, if it occurs exactly at their places
 counts_by : (s : Sys) (table : List ℕ) (n : ℕ) (P : Pair → Type 0) → length table ≡ count (sizes_of s) →
     ((i : ℕ) → i < count (sizes_of s) → (slice_index table i ≡ n) ↔ P (pair_at (sizes_of s) i)) → Counts s P (count_by (λ d. d == n) table)
 counts_by s table n P long is =
@@ -115,7 +115,7 @@ last_greatest s table counts are ranking some =
       ];
     }
 
--- every pair is related exactly where no depth is counted
+-- every pair is related exactly if no depth is counted
 pub none_counted : (s : Sys) (table counts : List ℕ) → AreDepths s table → IsRanking table counts → (length counts ≡ 0) ↔ ((p : Pair) → IsPair s p → Great s p)
 none_counted s table counts are ranking = (
   λ e p pair. elim (all_counted s table counts are ranking p pair) [ inl great ↦ great | inr (n, less, least) ↦ absurd (omega (arith, e, less)) ],

@@ -26,8 +26,8 @@ abbrev pub level_lines : ℕ → List ℕ → List ℕ
 level_lines n [] = []
 level_lines n (pairs ∷ counts) = level_line n pairs ++ level_lines (suc n) counts
 
--- The text tells how many pairs are related, how many have each depth up to the greatest one, and the depth of the start pair p. The
--- opponent that plays by the depths wins from p within as many requests, whichever services serve.
+-- The text states how many pairs are related, how many have each depth up to the greatest one, and the depth of the start pair p.
+-- The opponent that plays by the depths wins from p within as many requests, whichever services serve.
 pub record TellsDepths (s : Sys) (p : Pair) (text : List ℕ) : Type 0 where
   pub related : ℕ
   pub great : Counts s (Great s) related

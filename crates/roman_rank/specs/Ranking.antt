@@ -1,4 +1,4 @@
--- Tables of depths: a depth for each pair, in the order of the pairs' numbers. The greatest number of 32 bits stands for a pair without a depth.
+-- Tables of depths: a depth for each pair, in the order of the pairs' numbers. The greatest number of 32 bits means that a pair has no depth.
 use Rattle.std.specs.Prelude.{◌≡◌, ◌≢◌, ◌⊎◌, ℕ, zero, suc, ◌+◌, ◌-◌, max, ◌^◌, ◌<◌, ◌≤◌, ◌==◌, Bool, false, List, Option, None, Some, length, slice_index, count_by, IsTrue, IsFalse, if◌then◌else◌}
 use Rattle.roman_model.specs.System.{Sys, IsSys}
 use Rattle.roman_model.specs.Arena.{Arena, Entry, is_listed, loses}
@@ -16,7 +16,7 @@ pub record AreDepths (s : Sys) (table : List ℕ) : Type 0 where
   pub long : length table ≡ count (sizes_of s)
   pub each : (p : ℕ) → p < count (sizes_of s) → IsDepth s (pair_at (sizes_of s) p) (depth_in table p)
 
--- the counts say how often each depth occurs in the table, up to the greatest depth there
+-- each count is how often its depth occurs in the table, up to the greatest depth there
 pub record AreCounts (table counts : List ℕ) : Type 0 where
   pub each : (n : ℕ) → n < 2 ^ 32 - 1 → slice_index counts n ≡ count_by (λ d. d == n) table
   pub within : length counts < 2 ^ 32
@@ -58,7 +58,7 @@ pub record AreRanksBelow (A : Arena ℕ) (n : ℕ) (table : List ℕ) : Type 0 w
   pub lost : (p : ℕ) → p < length A.nodes → IsTrue (loses_before A n p) → (slice_index table p < n) × IsRank A p (slice_index table p)
   pub others : (p : ℕ) → p < length A.nodes → IsFalse (loses_before A n p) → slice_index table p ≡ 2 ^ 32 - 1
 
--- the nodes of the list's entries from start up to end were given n, and the others stay
+-- the nodes of the list's entries from start up to end have the number n, and the others are unchanged
 pub record GivesLevel (L : List (Entry ℕ)) (start end n : ℕ) (old new : List ℕ) : Type 0 where
   pub given : (i : ℕ) → start ≤ i → i < end → slice_index new (slice_index (nodes_of L) i) ≡ n
   pub others : (p : ℕ) → ((i : ℕ) → start ≤ i → i < end → slice_index (nodes_of L) i ≢ p) → slice_index new p ≡ slice_index old p

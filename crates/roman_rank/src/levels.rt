@@ -25,7 +25,7 @@ pub(crate) fn depths_by<J: Rules>(
     requires all { HoldsAllLost (J.arena joint.now) order.now.list }
     ensures { IfOk result (λ depths. AreRanks (J.arena joint.now) depths.items) }
 {
-    joint.known(); // pairs are told apart by their numbers
+    joint.known(); // no two pairs have the same number
     order.known(); // no pair is listed twice
     let pairs = joint.pairs();
     let mut depths = vec![in alloc; u32::MAX; pairs as usize]?;

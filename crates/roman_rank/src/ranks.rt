@@ -23,16 +23,16 @@ use std::sync::ledger::Ledger;
 /// The depth of each pair of a system: the least number of requests within which the opponent wins from
 /// it.
 ///
-/// Contracts see a table of these numbers, in the order of the pairs' numbers. `u32::MAX` stands for a
-/// pair without a depth. A clause about a system holds for each system whose [depths](Ranks::build) the
-/// table has.
+/// Contracts see a table of these numbers, in the order of the pairs' numbers. `u32::MAX` means
+/// that a pair has no depth. A clause about a system holds for each system whose
+/// [depths](Ranks::build) the table has.
 pub struct Ranks {
     depths: Vec<u32>,
     // the number of pairs of each depth, up to the greatest depth
     counts: Vec<u32>,
 }
 
-// One call. At each exit of a function that owns ranks, a derived drop would be a step for each vector.
+// One call. A derived drop would be a step for each vector at each exit of an owning function.
 impl Drop for Ranks {
     fn drop(self) {
         let Ranks {
@@ -56,7 +56,7 @@ impl Model for Ranks {
 impl Ranks {
     /// Returns the depths of a relation's system. Requires a complete list. Takes one pass over the
     /// removal list if that list has its levels. Otherwise runs the rounds anew, on a list that is
-    /// dropped at the end. Fails only when out of memory. No other call takes memory.
+    /// dropped at the end. Fails only when out of memory. No other call allocates memory.
     pub fn build<L: Ledger>(
         alloc: Global,
         relation: &Relation,
@@ -66,7 +66,7 @@ impl Ranks {
         requires shaped { IsShapedFor relation.now.joint relation.now.order }
         ensures depths { IfOk result (AreDepths (system_of relation.now.joint)) }
     {
-        relation.joint.known(); // the system is well formed, a pair's number fits 32 bits
+        relation.joint.known(); // the system is well formed, a pair's number fits in 32 bits
         let depths = depths_of(alloc, relation, steps)?;
         let counts = counts_of(alloc, &depths)?;
         Ok(Ranks { depths, counts })
@@ -137,7 +137,7 @@ fn depths_of<L: Ledger>(
     requires shaped { IsShapedFor relation.now.joint relation.now.order }
     ensures { IfOk result (λ depths. AreRanks (arena_of relation.now.joint) depths.items) }
 {
-    relation.joint.known(); // the system is well formed, a pair's number fits 32 bits
+    relation.joint.known(); // the system is well formed, a pair's number fits in 32 bits
     relation.order.known(); // listed pairs are pairs of the system
     if relation.order.levels().is_empty() {
         depths_anew(alloc, &relation.joint, steps)

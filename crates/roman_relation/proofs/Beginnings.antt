@@ -1,7 +1,7 @@
 -- Lists of entries that begin with other lists.
 use Rattle.roman_relation.proofs.Common.{◌≡◌, ℕ, ◌≤◌, ◌==◌, List, length, take, drop, IsTrue, IsFalse, sym, ap, ◌∙◌, subst, arith, take-append-drop, ◌++◌, ◌+◌, take-append_seam, take-length, both_ways, or_left, false_from_ne_true, take-take, length-take, Arena, Entry, is_listed, fall, any_same, listed_append, fall_append, IsNumbered, has_entry, Board, Begins, SettlesOn, IsShaped}
 
--- a node is listed where the order has an entry for it
+-- a node is listed exactly if the order has an entry for it
 pub listed_is : (A : Arena ℕ) → IsNumbered A → (L : List (Entry ℕ)) (p : ℕ) → is_listed A L p ≡ has_entry L p
 listed_is A ok L p = any_same (λ (x : Entry ℕ). A.same p x.node) (λ (x : Entry ℕ). p == x.node) L (λ x i. ok.same p x.node)
 

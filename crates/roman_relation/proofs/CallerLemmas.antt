@@ -1,4 +1,4 @@
--- What the proofs of other crates may cite of this one. All else in proofs/ can be renamed freely.
+-- The lemmas of this crate that proofs of other crates may cite. All else in proofs/ can be renamed freely.
 
 -- Lists of entries that begin with other lists.
 pub use Rattle.roman_relation.proofs.Beginnings.{listed_is}

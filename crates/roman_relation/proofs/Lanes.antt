@@ -11,7 +11,7 @@ pub words_rows : (A : Arena ℕ) → IsNumbered A → (lanes : ℕ) (b : Board) 
     AreRows b.lanes (λ p. not (has_entry b.list p)) words → AreUnlisted A lanes b.list words
 words_rows A ok lanes b words shaped are = grind (arith, unlisted_row)
 
--- where the word of a row is 0, all its pairs are listed
+-- if the word of a row is 0, all its pairs are listed
 pub all_listed : (A : Arena ℕ) → IsNumbered A → (lanes row lane : ℕ) (b : Board) (words : List ℕ) → IsShaped A lanes b → length words ≡ b.rows →
     row < b.rows → AreRows b.lanes (λ p. not (has_entry b.list p)) words → slice_index words row ≡ 0 → lane < lanes → IsTrue (is_listed A b.list (row * lanes + lane))
 all_listed A ok lanes row lane b words shaped long inside are empty l =

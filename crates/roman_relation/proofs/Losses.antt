@@ -1,4 +1,4 @@
--- Noting the entries of a batch together.
+-- Entries of a batch that are noted together.
 use Rattle.roman_relation.proofs.Common.{on_in, in_lanes, has_entry-batch, some_lane, ◌≡◌, ◌≢◌, ℕ, ◌+◌, ◌*◌, ◌<◌, ◌≤◌, true, ◌&&◌, List, [], ◌∷◌, ◌++◌, length, take, drop, IsTrue, inl, inr, refl, sym, ap, ◌∙◌, subst, arith, take-append-drop, ◌==◌, ◌^◌, bit_and, and_parts, or_left, or_right, eq-eqb, in_map, sum_by_within, list_any-append, IsIn, Arena, Entry, is_listed, fall, back, is_on, IsNumbered, as_entry, entries_in, set_lanes, has_entry, Reason, IsBatch, entries_at, Batch, and_le_l, on_and}
 use Rattle.roman_relation.proofs.Beginnings.{listed_is}
 

@@ -1,4 +1,4 @@
--- Clearing marks one by one, and noting bands.
+-- Marks that are cleared one by one, and bands that are noted.
 use Rattle.roman_relation.proofs.Common.{◌≡◌, ◌≢◌, sum_by, ℕ, zero, suc, ◌+◌, ◌*◌, ◌<◌, Bool, true, false, cond, List, length, inl, inr, sym, ap, ◌∙◌, arith, count_by, cases_eq, cases_lt, both_ways, sum_by_push, get_or_past, below, sum_by_same, from_below, has_flag, Board, is_marked, bit_at-zero}
 
 -- ---- fewer marks

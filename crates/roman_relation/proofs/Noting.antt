@@ -15,7 +15,7 @@ own_band n w L e is =
     any_from (λ (x : Entry ℕ). y == x.node / n / w) (as_entry (e.row * n + lane, e.reason)) (L ++ entries_at n e) (in_append_right _ L (entries_at n e) (in_entries n e.row e.lanes lane e.reason low on))
     (eq-eqb y ((e.row * n + lane) / n / w) (ap (λ x. x / w) (sym (lane_place n e.row lane (is.within lane on)).0)))
 
--- no other band is
+-- a batch adds no other band than its own
 pub other_band : (n w z : ℕ) (L : List (Entry ℕ)) (e : Batch) → IsBatch n e → z ≢ e.row / w → has_band n w (L ++ entries_at n e) z ≡ has_band n w L z
 other_band n w z L e is ne = grind (arith, from_map, in_lanes, lane_place, list_any-append, ne_eqb, none_from, or-false)
 
@@ -28,13 +28,13 @@ new_band A ok n w start L q t off = elim (or_cases (is_listed A (take start L) q
 
 -- ---- noted bands and kept words
 
--- where a pair that wasn't listed at the start has no kept bit, its band is noted
+-- if a pair that wasn't listed at the start has no kept bit, its band is noted
 pub noted_off : (A : Arena ℕ) (n w start row lane : ℕ) (noted : ℕ → Bool) (b : Board) → AreNoted A n w start noted b → row < b.rows → lane < n →
     is_on (slice_index b.before row) lane ≡ false → IsFalse (is_listed A (take start b.list) (row * n + lane)) → noted (row / w) ≡ true
 noted_off A n w start row lane noted b is l h off new =
     by_test (noted (row / w)) (λ t. t) (λ f. absurd (both_ways (is_on (slice_index b.before row) lane) off ((is.stale row l f).each lane h ∙ not_from_false _ new)))
 
--- where a listed pair has a kept bit, its band isn't noted
+-- if a listed pair has a kept bit, its band isn't noted
 pub noted_on : (A : Arena ℕ) (n w start row lane : ℕ) (noted : ℕ → Bool) (b : Board) → AreNoted A n w start noted b → row < b.rows → lane < n →
     is_on (slice_index b.before row) lane ≡ true → IsTrue (is_listed A b.list (row * n + lane)) → noted (row / w) ≡ false
 noted_on A n w start row lane noted b is l h on listed = grind (arith, both_ways, false_from_ne_true, (is.fresh row l))

@@ -30,7 +30,7 @@ order_more A ok gone L (x ∷ N) distinct less each order =
 
 -- ---- lists that were added to
 
--- more is added
+-- a list that is added to again
 pub adds_on : (A : Arena ℕ) (gone : ℕ → Bool) (May More : ℕ → Type 0) (L M N : List (Entry ℕ)) → AddsTo A gone May L M → AddsTo A gone More M N → ((p : ℕ) → More p → May p) → AddsTo A gone May L N
 adds_on A gone May More L M N one two may = record {
   begins = begins_on L M N one.begins two.begins;

@@ -27,13 +27,13 @@ pub record HasCompleteList (joint : NamedSys) (order : Board) : Type 0 where
   pub idle : order.waiting ≡ []
   pub levels : (order.levels ≡ []) ⊎ AreLevels (arena_of joint) order.levels order.list
 
--- what holds of a relation between two changes: its list is complete, and its order is shaped for the joint, with room
+-- the state of a relation between two changes: its list is complete, and its order is shaped for the joint, with room
 -- for every system within the limit
 pub record IsRelation (joint : NamedSys) (order : Board) : Type 0 where
   pub complete : HasCompleteList joint order
   pub shaped : IsShapedFor joint order
   pub caps : HasCaps joint order
 
--- this holds of the relation's joint and order
+-- the joint and the order are those of a relation between two changes
 abbrev pub IsUpToDate : Relation → Type 0
 IsUpToDate relation = IsRelation relation.joint relation.order

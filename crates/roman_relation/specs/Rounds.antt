@@ -39,8 +39,8 @@ pub record AreLostRows (A : Arena ℕ) (gone : ℕ → Bool) (L : List (Entry �
   pub within : (i lane : ℕ) → is_on (slice_index lost i) lane ≡ true → lane < lanes
   pub is : (i lane : ℕ) → i < rows → lane < lanes → is_on (slice_index lost i) lane ≡ (not (is_listed A L ((x + i) * lanes + lane)) && is_justified A gone ((x + i) * lanes + lane) reason)
 
--- the second list begins with the first, and has more pairs for which this holds; it is a removal list if the first one is,
--- and has the pairs that are gone
+-- the second list begins with the first, and each pair that it adds meets the condition `May`; it is a removal list if the
+-- first one is, and has the pairs that are gone
 pub record AddsTo (A : Arena ℕ) (gone : ℕ → Bool) (May : ℕ → Type 0) (L M : List (Entry ℕ)) : Type 0 where
   pub begins : Begins L M
   pub valid : ((p : ℕ) → IsTrue (gone p) → IsTrue (is_listed A L p)) → IsOrder A L → IsOrder A M

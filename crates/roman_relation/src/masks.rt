@@ -9,15 +9,15 @@ ghost use Rattle.roman_relation.specs.Shaped.{IsShaped};
 use roman_order::Order;
 use roman_rules::{Rules, SeatSet};
 
-/// Returns the mask of the action `a` at the pair `p`: the seats that have an outcome there, and none
-/// that is listed.
+/// Returns the mask of the action `a` at the pair `p`: the seats that have an outcome there, and
+/// only outcomes that aren't listed.
 pub(crate) fn mask<J: Rules>(joint: &J, order: &Order, p: u32, a: u8) -> SeatSet
     requires shaped { IsShaped (J.arena joint.now) (J.lanes joint.now) order.now }
     requires pair { p < length (J.arena joint.now).nodes }
     requires action { a < (J.arena joint.now).actions }
     ensures { let A = J.arena joint.now in HasBits result (has (mask_of A (is_listed A order.now.list) p a)) }
 {
-    joint.known(); // pairs are told apart by their numbers
+    joint.known(); // no two pairs have the same number
     order.known(); // a row has 1 to 64 lanes
     let lanes = joint.lanes();
     let row = joint.row(p / lanes);

@@ -24,14 +24,14 @@ use roman_rules::{Rules, SeatSet};
 use std::alloc::{AllocError, Global};
 use std::sync::ledger::Ledger;
 
-/// A joint, and the removal list of the pairs that the greatest ND-simulation doesn't hold. A pair is
-/// related where it isn't listed. The notion is that of De Giacomo, Patrizi and Sardina, "Automatic
+/// A joint, and the removal list of the pairs that the greatest ND-simulation doesn't hold. A pair
+/// is related if it isn't listed. The notion is that of De Giacomo, Patrizi and Sardina, "Automatic
 /// Behavior Composition Synthesis" (Artificial Intelligence 196, 2013).
 ///
-/// The two fields can be borrowed separately. What the calls promise about the greatest ND-simulation
-/// holds where the list is [complete](Relation::build): it has exactly the pairs that aren't related,
-/// and no entry waits. The order must be shaped for the joint, as [`build`](Relation::build) leaves
-/// it. Only [`afresh`](Relation::afresh) and [`reset_to`](Relation::reset_to) shape it themselves, and
+/// The two fields can be borrowed separately. The promises about the greatest ND-simulation hold if
+/// the list is [complete](Relation::build): it has exactly the pairs that aren't related, and no
+/// entry waits. The order must be shaped for the joint, as [`build`](Relation::build) leaves it.
+/// Only [`afresh`](Relation::afresh) and [`reset_to`](Relation::reset_to) shape it themselves, and
 /// need the room that `build` reserves.
 #[derive(Drop)]
 pub struct Relation {
@@ -42,9 +42,9 @@ pub struct Relation {
 }
 
 impl Relation {
-    /// Makes the greatest relation of a joint. Its removal list is complete, and the entries rise by
-    /// depth, level by level. It has room for every system within the joint's limit. No other call but
-    /// [`scratch`](Relation::scratch) takes memory.
+    /// Makes the greatest relation of a joint. Its removal list is complete, and the entries rise
+    /// by depth, level by level. It has room for every system within the joint's limit. No other
+    /// call but [`scratch`](Relation::scratch) allocates memory.
     ///
     /// Fails only when out of memory.
     pub fn build<L: Ledger>(
@@ -81,8 +81,8 @@ impl Relation {
     }
 
     /// Makes this relation equal to `from`. Requires that the two differ only in their services and
-    /// their lists, and that no entry of `from` waits. Writes only what the tables of `from` hold, not
-    /// what they have room for. Takes no memory.
+    /// their lists, and that no entry of `from` waits. Copies only the contents of the tables of
+    /// `from`, not their unused room. Allocates no memory.
     pub fn reset_to(&mut self, from: &Relation)
         requires parts { HasSameParts self.old.joint from.now.joint }
         requires caps { HasCaps self.old.joint self.old.order }
@@ -122,9 +122,9 @@ impl Relation {
         self.order.unlisted()
     }
 
-    /// Returns the mask of the action `a` at the pair `p`, related or not: the services that are ready
-    /// and have an outcome there, and none that is listed. The mask is empty where the target doesn't
-    /// allow the action. It is computed from the services, and not stored.
+    /// Returns the mask of the action `a` at the pair `p`, related or not: the services that are
+    /// ready and have an outcome there, and only outcomes that aren't listed. The mask is empty if
+    /// the target doesn't allow the action. Computes it anew, since masks aren't stored.
     #[tactic(auto, using(crate::proofs::Relating::counted))]
     pub fn mask(&self, p: u32, a: u8) -> SeatSet
         requires shaped { IsShapedFor self.now.joint self.now.order }
@@ -162,8 +162,8 @@ impl Relation {
     }
 
     /// Shapes the order for the joint, empties the list, and makes it complete by rounds. Does what
-    /// [`build`](Relation::build) does, but without taking memory. The entries then rise by depth,
-    /// level by level. Requires an order without waiting entries.
+    /// [`build`](Relation::build) does, but without allocating memory. The entries then rise by
+    /// depth, level by level. Requires an order without waiting entries.
     pub fn afresh<L: Ledger>(&mut self, steps: &mut Steps<L>)
         requires caps { HasCaps self.old.joint self.old.order }
         requires idle { self.old.order.waiting ≡ [] }
@@ -180,9 +180,9 @@ impl Relation {
         settle_list(&self.joint, &mut self.order, steps);
     }
 
-    /// Extends the removal list to a complete one. Requires a list in which each entry is justified by
-    /// those before it, and an order without waiting entries. Counts at most as many steps as
-    /// delegations lead to the added pairs. Levels are kept only where the list was empty.
+    /// Extends the removal list to a complete one. Requires a list in which each entry is justified
+    /// by those before it, and an order without waiting entries. Counts at most as many steps as
+    /// delegations lead to the added pairs. Levels are kept only if the list was empty.
     pub fn settle<L: Ledger>(&mut self, steps: &mut Steps<L>)
         requires shaped { IsShapedFor self.old.joint self.old.order }
         requires valid { IsOrder (arena_of self.old.joint) self.old.order.list }

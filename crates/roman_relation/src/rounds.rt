@@ -1,4 +1,4 @@
-//! Rounds that make a removal list complete.
+//! Plays the rounds that make a removal list complete.
 ghost use Rattle.std.specs.Prelude.{◌≡◌, ◌≢◌, ℕ, suc, true, false, ◌+◌, ◌/◌, ◌<◌, ◌≤◌, ◌⊎◌, IsTrue, [], ◌∷◌, ◌++◌};
 ghost use Rattle.std.specs.Prelude.{length, drop};
 ghost use Rattle.roman_model.specs.Arena.{is_listed, IsOrder, fall};
@@ -20,8 +20,8 @@ use roman_rules::Rules;
 use std::sync::ledger::Ledger;
 use unfine::list_unfine;
 
-/// Prepares a removal list for rounds: lists the pairs that don't meet clause 2 of an ND-simulation,
-/// keeps the words of all rows, and marks all bands for the first round.
+/// Prepares a removal list for rounds: lists the pairs that don't meet clause 2 of an
+/// ND-simulation, stores all words as kept words, and marks all bands for the first round.
 pub fn begin_rounds<J: Rules>(joint: &J, order: &mut Order)
     requires shaped { IsShaped (J.arena joint.now) (J.lanes joint.now) order.old }
     requires valid { IsOrder (J.arena joint.now) order.old.list }
@@ -38,8 +38,8 @@ pub fn begin_rounds<J: Rules>(joint: &J, order: &mut Order)
 /// Plays one round, after [`begin_rounds`] or another round. Lists each pair at which some allowed
 /// action is served by no service, with the least such action. A service serves an action if it has
 /// an outcome there, and only outcomes that weren't listed before the round. Judges only the pairs
-/// of marked bands, and then marks the bands that the next round has to judge. The list is complete
-/// when a round adds nothing.
+/// of marked bands, and then marks the bands that the next round has to judge. If a round adds
+/// nothing, the list is complete.
 ///
 /// For each band in which pairs were added, counts one step for each delegation to a service before
 /// the band's own that leads to a given one of its pairs. These are at most as many steps as
@@ -68,12 +68,13 @@ pub fn play_round<J: Rules, L: Ledger>(joint: &J, order: &mut Order, steps: &mut
     mark_losses(joint, order, start, near, steps);
 }
 
-/// Extends a removal list to a complete one, to which no reason adds a pair, by rounds. Requires a
-/// list in which each entry is justified by those before it.
+/// Extends a removal list by rounds, until it is complete: no reason adds a pair. Requires a list
+/// in which each entry is justified by those before it.
 ///
-/// Counts at most as many steps as delegations lead to the added pairs. From an empty list the entries
-/// rise by depth, and the order keeps the ends of the levels: up to the end of level n the list has
-/// the pairs at which the opponent wins within n requests. From another list no levels are kept.
+/// Counts at most as many steps as delegations lead to the added pairs. From an empty list the
+/// entries rise by depth, and the order keeps the ends of the levels: up to the end of level n the
+/// list has the pairs at which the opponent wins within n requests. From any other list the order
+/// keeps no levels.
 pub fn settle_list<J: Rules, L: Ledger>(joint: &J, order: &mut Order, steps: &mut Steps<L>)
     requires shaped { IsShaped (J.arena joint.now) (J.lanes joint.now) order.old }
     requires valid { IsOrder (J.arena joint.now) order.old.list }
@@ -90,7 +91,7 @@ pub fn settle_list<J: Rules, L: Ledger>(joint: &J, order: &mut Order, steps: &mu
     ensures rises { order.old.list ≡ [] → RisesByDepth (J.arena joint.now) order.new.list }
     ensures cost { steps.new ≤ steps.old + fall (J.arena joint.now) (drop (length order.old.list) order.new.list) }
 {
-    joint.known(); // pairs are told apart by their numbers
+    joint.known(); // no two pairs have the same number
     let is_fresh = order.len() == 0;
     order.forget_levels();
     begin_rounds(joint, order);

@@ -1,4 +1,4 @@
--- What the proof pages of this crate cite from elsewhere, passed on from one place. Declares nothing.
+-- Re-exports the names that the proof pages of this crate use from other crates. Declares nothing.
 pub use Rattle.std.proofs.Common.{Bool, IsFalse, IsTrue, List, None, Option, Some, [], add-one, ap, append-nil, append_assoc, ap₂, arith, bit_and, bit_or, cond, count_by, drop, eqb, false, filter, flat_map, if◌then◌else◌, inl, inr, length, length-append, map, not, refl, remove, replicate, rules, slice_get, slice_index, subst, suc, sum_by, sym, true, zero, ℕ, ◌%◌, ◌&&◌, ◌*◌, ◌++◌, ◌+◌, ◌-◌, ◌/◌, ◌<◌, ◌==◌, ◌^◌, ◌||◌, ◌∙◌, ◌∷◌, ◌≡◌, ◌≢◌, ◌≤◌}
 pub use Rattle.std.proofs.Math.Bool.{and-true, not-not, or-false}
 pub use Rattle.std.proofs.Math.Nat.{div-mul-le_self, lt-div-mul-add, mul-le-mul_left}

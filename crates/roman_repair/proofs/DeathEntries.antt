@@ -10,7 +10,7 @@ first_numbers_seen : (seen more : List ℕ) (L : List (Entry ℕ)) → ((i : ℕ
 first_numbers_seen seen more [] same = refl
 first_numbers_seen seen more (x ∷ L) same = grind (arith, (first_numbers_seen seen more L same), (first_numbers_seen (x.node ∷ seen) (x.node ∷ more) L (λ i. ap (λ b. (i == x.node) || b) (same i))), (same x.node))
 
--- where the numbers differ, each unseen one is a first entry
+-- if the numbers differ, each unseen one is a first entry
 first_apart : (f : ℕ → Entry ℕ) (known : ℕ → Bool) (more ls : List ℕ) → ((i j : ℕ) → (f i).node ≡ (f j).node → i ≡ j) → HasNoRepeats ls → ((i : ℕ) → IsIn i ls → list_any (λ j. (f i).node == j) more ≡ known i) →
     first_numbers more (map f ls) ≡ map f (filter (λ i. not (known i)) ls)
 first_apart f known more [] apart once same = refl
@@ -61,13 +61,13 @@ part_goes n k seat first word may reason is goes =
 abbrev pub Goes : Sys → ℕ → ℕ → Bool → Type 0
 Goes s k p may = (seat : Seat) → CanChange (Die k seat) s → may_go k seat (pair_at (sizes_of s) p) ≡ may
 
--- where the seat may not leave its state behind, no entry is renamed
+-- if the seat may not leave its state behind, no entry is renamed
 pub part_stays : (s : Sys) (k first word : ℕ) (reason : Reason) (L : List (Entry ℕ)) → AreInPart (sizes_of s) k first word → Goes s k first false → Renames s k (entries_from first word reason) [] L L
 part_stays s k first word reason L is goes = record {
   list = λ seat seated. sym (ap (λ W. L ++ first_numbers (nodes_of L) (map (number_entry_without k (sizes_of s)) W)) (part_goes (sizes_of s) k seat first word false reason is (goes seat seated)));
 }
 
--- where it may, the renamed entries are those of lanes of one row, except for the listed ones
+-- if the seat may leave its state behind, the renamed entries are those of lanes of one row, except for the listed ones
 pub part_left : (s : Sys) (k first word left lanes alive : ℕ) (reason : Reason) (L : List (Entry ℕ)) → AreInPart (sizes_of s) k first word → Goes s k first true →
     left ≡ number (sizes_without k (sizes_of s)) (without k (pair_at (sizes_of s) first)) → lanes ≡ lanes_of (remove (sizes_of s).seats k) → (0 < lanes) × (lanes ≤ 64) → HasLanes lanes (left / lanes) (λ p. not (has_entry L p)) alive →
     Renames s k (entries_from first word reason) [] L (L ++ entries_in lanes (left / lanes) (bit_and (word * 2 ^ (left % lanes) % 2 ^ 64) alive) reason)

@@ -13,12 +13,12 @@ seat_there n k l = there_is (system_of n).seats k (omega (arith, length-map n.se
 pub seat_is : (n : NamedSys) (k : ℕ) (here : joint.Seat) (seat : Seat) → slice_get n.seats k ≡ Some here → CanChange (Die k seat) (system_of n) → seat_of n.catalogue here ≡ seat
 seat_is n k here seat there seated = same_Some (seat_of n.catalogue here) seat (sym (seat_read n k here there) ∙ seated)
 
--- a service that doesn't rest may leave any state behind
+-- a loose service may leave any state behind
 pub loose_goes : (n : NamedSys) (k b : ℕ) (here : joint.Seat) (seat : Seat) → slice_get n.seats k ≡ Some here → CanChange (Die k seat) (system_of n) → IsFalse here.rests →
     not here.rests ≡ (not seat.rests || is_final seat.beh b)
 loose_goes n k b here seat there seated loose = grind (arith, (ap (λ (x : Seat). x.rests) (seat_is n k here seat there seated)))
 
--- a service that rests may leave its final states behind
+-- a service that isn't loose may leave its final states behind
 pub final_goes : (n : NamedSys) (k b : ℕ) (here : joint.Seat) (beh : NamedBeh) (final : Bool) (seat : Seat) → IsNamedSys n → slice_get n.seats k ≡ Some here → IsSeatBehaviour n k beh →
     IsTrue here.rests → final ≡ is_final beh.beh b → CanChange (Die k seat) (system_of n) → final ≡ (not seat.rests || is_final seat.beh b)
 final_goes n k b here beh final seat known there of rest is seated =
@@ -39,14 +39,14 @@ part_first_seat n ns w some stride lanes = record { stride = stride; lanes = par
 part_later_seat : (n : ℕ) (ns : List ℕ) (k w : ℕ) → 0 < n → IsPart ns k w → IsPart (n ∷ ns) (suc k) w
 part_later_seat n ns k w some is = grind (arith, part_of_more)
 
--- the lanes begin no later behind the first component
+-- without the first component the lanes begin no later
 low_behind : (n : ℕ) (ns : List ℕ) (m : ℕ) → 0 < n → low_of (n ∷ ns) ≤ suc m → low_of ns ≤ m
 low_behind n ns m some low = elim (cases_lt 64 (product_of (n ∷ ns))) [
   | inl more ↦ omega (arith, low, (shorter_row n ns more).0)
   | inr few ↦ omega (arith, (whole_row ns (few_behind n ns some few)).0)
 ]
 
--- a part is of the pairs that differ only in components within the lanes, and behind the one that goes
+-- the pairs of a part differ only in components that are within the lanes and after the one that is removed
 pub part_from : (ns : List ℕ) (k m : ℕ) → AreSizes ns → k < m → k < length ns → low_of ns ≤ m → IsPart ns k (product_of (drop m ns))
 part_from [] k m h l seat low = absurd (omega arith)
 part_from (n ∷ ns) k zero h l seat low = absurd (omega arith)
@@ -109,11 +109,11 @@ moved_lanes word alive place test few each =
 pair_in : (s : Sys) (e : Batch) (lane : ℕ) → IsWithin s e → IsIn lane (set_lanes e.lanes) → e.row * lanes_in s + lane < count (sizes_of s)
 pair_in s e lane is i = is.nodes (as_entry (e.row * lanes_in s + lane, e.reason)) (in_map (λ lane. as_entry (e.row * lanes_in s + lane, e.reason)) lane (set_lanes e.lanes) i)
 
--- its row
+-- the row of the batch is one of the system
 pub row_in : (s : Sys) (e : Batch) → IsWithin s e → e.row * lanes_in s < count (sizes_of s)
 row_in s e is = let (lane, i) = some_in (set_lanes e.lanes) is.batch.some in omega (arith, pair_in s e lane is i)
 
--- the pairs of the first part of its remaining lanes
+-- the pairs of the first part of a batch's remaining lanes
 pub part_in : (n : NamedSys) (shape : Sizes) (e : Batch) (k first left w i part rest : ℕ) → IsWithin (system_of n) e → shape ≡ sizes_of (system_of n) → k < length n.seats → first ≡ e.row * lanes_in (system_of n) → IsPart shape.seats k w →
     ((lane : ℕ) → is_on left lane ≡ true → is_on e.lanes lane ≡ true) → IsFirstPart left w i part rest → AreInPart (sizes_of (system_of n)) k (first + i * w) part
 part_in n shape e k first left w i part rest is same there row wide within begins =

@@ -29,7 +29,7 @@ both_fit word end fits = omega (arith, and_le_l word end)
 
 -- ---- the numbers that pass
 
--- all elements pass, or none
+-- either all elements pass, or no element does
 pub filter_alike : {X : Type 0} (p : X → Bool) (b : Bool) (xs : List X) → ((x : X) → IsIn x xs → p x ≡ b) → filter p xs ≡ cond b xs []
 filter_alike p true [] same = refl
 filter_alike p false [] same = refl
@@ -54,7 +54,7 @@ only_so_far q b m off = filter_split q b m ∙ ap (λ M. filter q (below b) ++ m
 
 -- ---- a word that is split in two
 
--- as the code splits it
+-- the two parts of a word, as the code computes them
 pub is_cut : (word cut : ℕ) → word < 2 ^ 64 → cut ≤ 64 → let front = bit_and word ((2 ^ 64 - 1) / 2 ^ (64 - cut)) in IsCutAt word front (bit_and word (bit_not w64 front)) cut
 is_cut word cut fits few = record {
   parts = set_lanes-joined word front rest (λ lane l. grind (arith, cases_Bool, cases_lt, (low lane), (high lane), (less lane l))) (λ i j on there. grind (arith, both_ways, cases_lt, (low j), (high i), (less j), (of_word (bit_not w64 front) j there)));
@@ -94,11 +94,11 @@ has_some (y ∷ xs) x i = omega arith
 lane_some : (word lane : ℕ) → lane < 64 → is_on word lane ≡ true → 0 < length (set_lanes word)
 lane_some word lane l on = has_some (set_lanes word) lane (on_in word lane l on)
 
--- a word that is cut at the first of the others has a front of one answer
+-- a word that is cut at the first lane that differs has a front of alike lanes
 abbrev pub IsFront : ℕ → ℕ → ℕ → Bool → Type 0
 IsFront word held others holds = let end = trailing_zeros w64 others in ((0 < end) × (end ≤ 64)) × ((front rest : ℕ) → IsCutAt word front rest end → HasFront word held front rest holds)
 
--- the lanes before the first one in a mask have one answer
+-- the lanes before the first one in a mask are alike
 alike_front : (word held mask : ℕ) (holds : Bool) → word < 2 ^ 64 → 0 < length (set_lanes word) → is_on mask (trailing_zeros w64 word) ≡ false → ((lane : ℕ) → lane < 64 → is_on mask lane ≡ false → is_on held lane ≡ holds) →
     IsFront word held (bit_and word mask) holds
 alike_front word held mask holds fits some off same = (
@@ -207,7 +207,7 @@ is_between begin end some few =
 
 -- ---- the entries of a word's lanes
 
--- those of the first part, and those of the others
+-- the entries of a word's lanes are those of the first part, followed by those of the others
 pub part_entries : (n x word width i part rest : ℕ) (reason : Reason) → IsFirstPart word width i part rest → entries_in n x word reason ≡ entries_from (x * n + i * width) part reason ++ entries_in n x rest reason
 part_entries n x word width i part rest reason is =
     let f = λ (lane : ℕ). as_entry (x * n + lane, reason) in
@@ -222,7 +222,7 @@ fewer_lanes word width i part rest is =
     let f = λ (lane : ℕ). i * width + lane in
     omega (arith, ap length is.parts, length-append (map f (set_lanes part)) (set_lanes rest), length-map (set_lanes part) f, is.some)
 
--- the lanes of a word that are below a bound are all
+-- if all lanes of a word are below a bound, they are those that are found below it
 pub lanes_below : (word n : ℕ) → n ≤ 64 → ((lane : ℕ) → is_on word lane ≡ true → lane < n) → filter (is_on word) (below n) ≡ set_lanes word
 unfolding set_lanes
 lanes_below word n few within =

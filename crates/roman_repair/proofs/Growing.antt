@@ -25,14 +25,14 @@ spread_list word spread lanes width few is =
         let next : suc m * width ≡ m * width + width = omega arith in
         grind (arith, filter_below_more, filter_split, flat_map-append, (ap (λ n. filter (is_on spread) (below n)) next), (blocks m (λ lane i l h. each lane i (omega (arith, l)) h)), (block m (is_on word m) (λ i h. each m i (omega arith) h)))
 
--- the first lane that isn't the word's ends a run of lanes that are
+-- the first lane that isn't one of the word ends a group of neighbouring lanes of the word
 pub stretch_lanes : (word lane end : ℕ) → word < 2 ^ 64 → end ≤ 64 → ((l : ℕ) → lane ≤ l → l < end → is_on (bit_not w64 word) l ≡ false) → (l : ℕ) → lane ≤ l → l < end → is_on word l ≡ true
 stretch_lanes word lane end fits few off l past less = sym (not-not (is_on word l)) ∙ ap not (sym (on_not word l fits (omega (arith, less, few))) ∙ off l past less)
 
 pub stretch_some : (word lane end lanes : ℕ) → word < 2 ^ 64 → lanes ≤ 64 → lane < lanes → lane ≤ end → is_on word lane ≡ true → (end < lanes → is_on (bit_not w64 word) end ≡ true) → lane < end
 stretch_some word lane end lanes fits few less past here next = grind (arith, both_ways, cases_eq, (on_not word lane fits), next)
 
--- a run of lanes is spread, and the lanes after it that the word doesn't have
+-- a group of neighbouring lanes is spread, together with the lanes after it that the word doesn't have
 pub spread_more : (word spread block lane end next width : ℕ) → IsSpread word spread lane width → HasLanesBetween block (lane * width) (end * width) → lane ≤ end → end ≤ next → ((l : ℕ) → lane ≤ l → l < end → is_on word l ≡ true) → ((l : ℕ) → end ≤ l → l < next → is_on word l ≡ false) →
     IsSpread word (bit_or spread block) next width
 spread_more word spread block lane end next width is run less more on off = record {
@@ -56,7 +56,7 @@ pub record IsSliced (n lanes states slices many : ℕ) : Type 0 where
   pub few : slices ≤ 64
   pub fits : slices * states ≤ 64
 
--- as they are computed
+-- the parts of a row, as they are computed
 pub sliced : (n lanes states row width : ℕ) → row ≡ n → width ≡ states → AreSlices n lanes states → 0 < n → n ≤ 64 → IsSliced n lanes states (row / width) (lanes / (row / width))
 sliced n lanes states row width same wide is some few =
     let (m, whole, d, parts) = is.slices in
@@ -75,7 +75,7 @@ same_slices row lanes same few = record { few = few; slices = (row, omega arith,
 pub grown_itself : (states lanes n : ℕ) (e : Batch) → states ≡ 1 → lanes ≡ n → entries_at n e ≡ flat_map (grown_numbers states) (entries_at lanes e)
 grown_itself states lanes n e one same = sym (ap (λ s. flat_map (grown_numbers s) (entries_at lanes e)) one ∙ grown_by_one (entries_at lanes e) ∙ ap (λ m. entries_at m e) same)
 
--- what the entries of the first part and of the others stand for
+-- the entries for which those of the first part and of the others stand
 pub grown_first : (n lanes states slices many x word i part rest spread : ℕ) (reason : Reason) → IsSliced n lanes states slices many → IsFirstPart word slices i part rest → set_lanes spread ≡ spread_below part slices states →
     flat_map (grown_numbers states) (entries_in lanes x word reason) ≡ entries_in n (x * many + i) spread reason ++ flat_map (grown_numbers states) (entries_in lanes x rest reason)
 grown_first n lanes states slices many x word i part rest spread reason is first wide =
@@ -87,7 +87,7 @@ grown_first n lanes states slices many x word i part rest spread reason is first
       (grown_part n slices many states lanes x i spread reason (set_lanes part) is.whole is.parts),
     )
 
--- a spread word has a lane where the word has one
+-- a spread word has a lane if the word has one
 pub spread_some : (word spread lanes width : ℕ) → 0 < width → lanes ≤ 64 → ((lane : ℕ) → is_on word lane ≡ true → lane < lanes) → 0 < length (set_lanes word) → set_lanes spread ≡ spread_below word lanes width → 0 < length (set_lanes spread)
 spread_some word spread lanes width wide few within some is =
     let (lane, i) = some_in (set_lanes word) some in
@@ -112,7 +112,7 @@ grown_row nodes n lanes states slices many x word i part rest reason is first wi
 
 -- ---- the batches of grown rows
 
--- where each entry stands for its own pair, the batch stays as it is
+-- if each entry stands for its own pair, the batch stays unchanged
 pub stays_batch : (A : Arena ℕ) (n : ℕ) (newcomer : Newcomer) (order : Board) (probe : BandProbe) (e : Batch) → newcomer.states ≡ 1 → newcomer.lanes ≡ n → CanReplayBatch A n newcomer.lanes (entries_grown newcomer) order probe e → CanReplayBatch A n n (entries_at n) order probe e
 stays_batch A n newcomer order probe e one same can = record {
   shaped = can.shaped;
@@ -120,7 +120,7 @@ stays_batch A n newcomer order probe e one same can = record {
   ready = (let (N, ready) = can.ready in (N, subst (λ L. CanReplay A n order.list probe (L ++ N)) (sym (grown_itself newcomer.states newcomer.lanes n e one same)) ready));
 }
 
--- what a batch stands for can be grown
+-- a batch whose entries can be replayed can grow
 pub can_grow : (A : Arena ℕ) (n : ℕ) (newcomer : Newcomer) (order : Board) (probe : BandProbe) (e : Batch) → AreSlices n newcomer.lanes newcomer.states → CanReplayBatch A n newcomer.lanes (entries_grown newcomer) order probe e → CanGrow A n newcomer e
 can_grow A n newcomer order probe e slices can = record { slices = slices; batch = can.batch; nodes = λ x i. (let (N, ready) = can.ready in ready.candidates.nodes x (in_append_left x (entries_grown newcomer e) N i)) }
 
@@ -137,18 +137,18 @@ grown_ready A n newcomer order probe e grown rest can is = record {
 
 -- ---- the waiting entries, batch by batch
 
--- the next batch goes first, and the others after it
+-- the entries of the next batch come first, and those of the others after them
 waiting_first : (newcomer : Newcomer) (now next : Board) (e : Batch) → now.waiting_lanes ≡ newcomer.lanes → now.waiting ≡ entries_at now.waiting_lanes e ++ next.waiting → candidates newcomer.states now ≡ entries_grown newcomer e ++ candidates newcomer.states next
 waiting_first newcomer now next e same first =
     ap (flat_map (grown_numbers newcomer.states)) (first ∙ ap (λ m. entries_at m e ++ next.waiting) same) ∙ flat_map-append (grown_numbers newcomer.states) (entries_at newcomer.lanes e) next.waiting
 
--- it can be replayed
+-- the next batch can be replayed
 pub next_ready : (A : Arena ℕ) (n : ℕ) (newcomer : Newcomer) (now next : Board) (on : BandProbe) (e : Batch) → now.waiting_lanes ≡ newcomer.lanes → now.waiting ≡ entries_at now.waiting_lanes e ++ next.waiting → next ≡ record now { waiting = next.waiting } →
     CanReplay A n now.list on (candidates newcomer.states now) → CanReplay A n next.list on (entries_grown newcomer e ++ candidates newcomer.states next)
 next_ready A n newcomer now next on e same first rest can =
     subst (λ K. CanReplay A n K on (entries_grown newcomer e ++ candidates newcomer.states next)) (sym (ap (λ (b : Board). b.list) rest)) (subst (CanReplay A n now.list on) (waiting_first newcomer now next e same first) can)
 
--- what it stands for was replayed too
+-- the entries for which the next batch stands were replayed as well
 pub replay_on : (A : Arena ℕ) (n : ℕ) (newcomer : Newcomer) (start now next new : Board) (on last : BandProbe) (e : Batch) (before between after : ℕ) → now.waiting_lanes ≡ newcomer.lanes → now.waiting ≡ entries_at now.waiting_lanes e ++ next.waiting → next ≡ record now { waiting = next.waiting } →
     Replays A n (entries_grown newcomer e) [] next.list new.list on last between after → new ≡ record next { list = new.list } → GoesOnTo A n (candidates newcomer.states start) (candidates newcomer.states now) start.list now.list on before between →
     GoesOnTo A n (candidates newcomer.states start) (candidates newcomer.states new) start.list new.list last before after
@@ -156,7 +156,7 @@ replay_on A n newcomer start now next new on last e before between after same fi
     let those = waiting_first newcomer now next e same first ∙ ap (λ W. entries_grown newcomer e ++ flat_map (grown_numbers newcomer.states) W) (sym (ap (λ (b : Board). b.waiting) kept)) in
     replayed_on _ _ _ _ _ _ _ _ _ _ _ _ _ _ goes those (subst (λ K. Replays A n (entries_grown newcomer e) [] K new.list on last between after) (ap (λ (b : Board). b.list) rest) replayed)
 
--- at the end all were
+-- when no batch waits, all entries were replayed
 pub replayed_all : (A : Arena ℕ) (n : ℕ) (newcomer : Newcomer) (start now last : Board) (on : BandProbe) (before after : ℕ) → GoesOnTo A n (candidates newcomer.states start) (candidates newcomer.states now) start.list now.list on before after → now ≡ record start { list = now.list; waiting = now.waiting } →
     (now.waiting ≡ []) × (last ≡ now) → HasReplayedAll A (candidates newcomer.states start) start last before after
 replayed_all A n newcomer start now last on before after goes rest (none, same) =

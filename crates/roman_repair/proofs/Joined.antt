@@ -2,7 +2,7 @@
 use Rattle.roman_repair.proofs.Common.{map_same_in, product_append, from_map, in_append_right, length-below, map-map, NumbersReplay, from_below, pair_at-grown, sizes-joined, from_flat_map, HasNoRepeats-map, HasNoRepeats-flat_map, HasNoRepeats-below, flat_map_same, map-flat_map, ◌≡◌, ℕ, ◌+◌, ◌*◌, ◌%◌, ◌<◌, ◌≤◌, List, [], ◌∷◌, ◌++◌, map, flat_map, drop, cond, zero, suc, IsTrue, inl, inr, refl, sym, ap, ◌∙◌, subst, arith, mul-le-mul_left, cases_lt, lt-ltb, le-ltb, same_from_place, mod_below, IsIn, HasNoRepeats, below, product_of, Sys, Seat, IsSys, Entry, Join, after, CanChange, Sizes, sizes_of, count, pair_at, numbered, Reason, Final, Act, grown_numbers, AreSizes, low_of, lanes_of, row_mod, lanes_few, lanes_in, NamedSys, system_of, IsNamedSys, nodes_of, as_entry, set_lanes, entries_in, is_possible, AreCandidates, AreSlices, length_push, flat_map-map, is_allowed}
 use Rattle.roman_repair.proofs.Keeping.{grown_number}
 
--- the new system shows that the service could join
+-- if the new system is well formed, the service could join the old one
 pub joined_can : (joint : NamedSys) (s : Sys) (seat : Seat) → IsNamedSys joint → system_of joint ≡ after (Join seat) s → CanChange (Join seat) s
 joined_can joint s seat known system =
     let sys : IsSys (after (Join seat) s) = subst IsSys system known.system in
@@ -45,19 +45,19 @@ joined_candidates s seat L are replays = record {
 
 -- ---- the rows of the grown pairs
 
--- where the states of all components fit into a row
+-- a row, if the states of all components fit into it
 pub whole_row : (ns : List ℕ) → product_of ns ≤ 64 → (low_of ns ≡ 0) × (lanes_of ns ≡ product_of ns)
 whole_row [] few = (refl, refl)
 whole_row (n ∷ ns) few = grind (arith, le-ltb)
 
--- and where those of the first don't
+-- a row, if the states of the first component don't fit into it
 pub shorter_row : (n : ℕ) (ns : List ℕ) → 64 < product_of (n ∷ ns) → (low_of (n ∷ ns) ≡ suc (low_of ns)) × (lanes_of (n ∷ ns) ≡ lanes_of ns)
 shorter_row n ns more = grind (arith, lt-ltb)
 
 pub few_behind : (n : ℕ) (ns : List ℕ) → 0 < n → product_of (n ∷ ns) ≤ 64 → product_of ns ≤ 64
 few_behind n ns some few = let less : product_of ns * 1 ≤ product_of ns * n = mul-le-mul_left (product_of ns) some in omega (arith, less, few)
 
--- what goes into a row goes into one of a component more
+-- a number that divides the lanes of a row divides the lanes of one with a component more in front
 pub part_of_more : (n : ℕ) (ns : List ℕ) (w : ℕ) → 0 < n → (c : ℕ) × (lanes_of ns ≡ c * w) → (c : ℕ) × (lanes_of (n ∷ ns) ≡ c * w)
 part_of_more n ns w some (c, is) = elim (cases_lt 64 (product_of (n ∷ ns))) [
   | inl more ↦ (c, (shorter_row n ns more).1 ∙ is)
@@ -66,7 +66,7 @@ part_of_more n ns w some (c, is) = elim (cases_lt 64 (product_of (n ∷ ns))) [
       (n * c, (whole_row (n ∷ ns) few).1 ∙ those ∙ omega arith)
 ]
 
--- a row of pairs whose last seat has so many states is of whole slices, and as many go into a row without that seat
+-- with a last seat of n states, a row consists of m slices of n lanes; without it, a row consists of d groups of m lanes
 lanes_last : (ns : List ℕ) (n : ℕ) → AreSizes ns → 0 < n → n ≤ 64 → (m : ℕ) × (lanes_of (ns ++ n ∷ []) ≡ m * n) × (d : ℕ) × (lanes_of ns ≡ d * m)
 lanes_last [] n h some few = (1, ap (λ b. product_of (drop (cond b 1 0) (n ∷ []))) (le-ltb 64 (n * 1) (omega arith)) ∙ omega arith, 1, omega arith)
 lanes_last (x ∷ ns) n h some few = elim (cases_lt 64 (product_of (x ∷ (ns ++ n ∷ [])))) [

@@ -1,4 +1,4 @@
--- What a replay keeps, candidate by candidate.
+-- Replays, candidate by candidate.
 use Rattle.roman_repair.proofs.Common.{◌≡◌, ℕ, ◌+◌, ◌*◌, ◌<◌, ◌≤◌, if◌then◌else◌, ◌&&◌, List, [], ◌∷◌, ◌++◌, length, IsTrue, count_by, inl, inr, refl, sym, ap, ◌∙◌, subst, arith, append-nil, append_assoc, sum_by, false_from_ne_true, eqb-true, or_from, map-append, sum_by-cons, list_any-append, IsIn, below, Arena, Entry, is_listed, is_justified, readings, is_among, Reason, Final, Act, grown_numbers, in_map, from_map, in_below, sum_by_within, listed_among, justified_same, replay_from_same, middle_first, readings_at, readings_within, IsNumbered, IsReasonOf, readings_of_reason, readings_of-allowed, nodes_of, is_possible, AreCandidates, with_replay, readings_of_entries}
 
 -- a possible reason names an action of the system

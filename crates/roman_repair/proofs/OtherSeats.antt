@@ -46,7 +46,7 @@ carried_justified s t k m over p b l h gone lost carry (Act a) j =
     let ne : i ≡ k → ⊥ = λ e. both_ways (i == k) other (eq-eqb i k e) in
     grind (arith, other, (over.outcomes p b a i l h inner ne), (beaten_map (λ q. q * m + b) gone lost ((numbered s).outcomes p a i) carry (each i (over.seat i inner ne)))))))
 
--- each entry that a removal list of the old system stands for would be kept
+-- each entry for which a removal list of the old system stands would be kept
 carried_kept : (s t : Sys) (k m : ℕ) → CarriesOver s t k m → (before : List ℕ) (kept L : List (Entry ℕ)) → ((x : Entry ℕ) → IsIn x L → x.node < count (sizes_of s)) →
     ((q b : ℕ) → b < m → IsTrue (is_among (numbered s) before q) → IsTrue (is_listed (numbered t) kept (q * m + b))) → IsOrderFrom (numbered s) before L →
     AreKept (without_seat (numbered t) k) kept (flat_map (grown_numbers m) L)
@@ -71,7 +71,7 @@ carried_kept s t k m over before kept (x ∷ L) are carry order =
       | inr rest ↦ or_left (is_listed (numbered t) kept (q * m + b)) (is_listed (numbered t) (grown_numbers m x) (q * m + b)) (carry q b h rest)
     ]
 
--- and so each that the list of a relation stands for
+-- each entry for which the list of a relation stands would be kept
 relation_kept : (joint : NamedSys) (old : Board) (t : Sys) (k m : ℕ) → IsNamedSys joint → IsRelation joint old → ((p : ℕ) → has_entry old.list p ≡ true → p < pairs_of old) → CarriesOver (system_of joint) t k m →
     AreKept (without_seat (numbered t) k) [] (flat_map (grown_numbers m) old.list)
 relation_kept joint old t k m known relation in_range over =

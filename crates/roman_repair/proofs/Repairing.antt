@@ -14,7 +14,7 @@ relation_replays change joint order known relation in_range can =
     let are : AreNumbers s order.list = listed_numbers s order relation.shaped.pairs in_range in
     numbers_replay change s order.list known.system can are (complete_order s order.list known.system are relation.complete.list)
 
--- a relation that was completed from that replay is what the repair should end in
+-- a relation that was completed from that replay is the repaired one
 pub repaired_from : (change : Change) (old_joint : NamedSys) (old : Board) (start : List (Entry ℕ)) (mid joint : NamedSys) (new : Board) (tally : Tally) → NumbersReplay change (system_of old_joint) old.list →
     start ≡ numbers_replayed change (system_of old_joint) old.list → system_of mid ≡ after change (system_of old_joint) → IsSettledOn mid start joint new tally → IsRepaired change old_joint old joint new tally
 repaired_from change old_joint old start mid joint new tally replays is system settled = record {
@@ -23,7 +23,7 @@ repaired_from change old_joint old start mid joint new tally replays is system s
   list = grind (arith, length-map, take-map);
 }
 
--- an order keeps its room where only the seats of the joint change
+-- if only the seats of the joint change, an order keeps its room
 pub caps_kept : (old_joint new_joint : NamedSys) (seats : List Seat) (old new : Board) → new_joint ≡ record old_joint { seats = seats } → new.cap_pairs ≡ old.cap_pairs → HasCaps old_joint old →
     HasCaps new_joint new
 caps_kept old_joint new_joint seats old new joint pairs caps = grind arith

@@ -1,4 +1,4 @@
--- Replays that go on, and the replay of a batch lane by lane.
+-- Replays that are made in steps, and the replay of a batch lane by lane.
 use Rattle.roman_repair.proofs.Common.{on_in, some_lane, set_lanes-zero, in_lanes, ◌≡◌, ◌≢◌, ℕ, zero, suc, ◌+◌, ◌*◌, ◌<◌, ◌≤◌, ◌==◌, Bool, true, false, if◌then◌else◌, ◌||◌, List, [], ◌∷◌, ◌++◌, map, length, Option, None, Some, IsTrue, IsFalse, count_by, inl, inr, refl, sym, ap, ◌∙◌, subst, arith, append-nil, append_assoc, add-one, length-append, both_ways, and_from, eqb-true, false_from_ne_true, cases_eq, cases_lt, false≢true, mul-le-mul_left, map-append, sum_by-cons, sum_by-append, IsIn, below, all_below, is_empty, list_any, Arena, Entry, is_listed, is_justified, is_beaten, Reason, Final, Act, all_below_from, by_test, justified_is, in_append_left, in_map, from_map, is_on, readings_of_reason, IsReasonOf, readings_of-allowed, count_below_more, IsNumbered, Board, as_entry, has_entry, set_lanes, entries_in, entries_at, Batch, IsShaped, HoldsInBand, is_possible, AreCandidates, with_replay, readings_of_entries, MayProbeAlone, passes, without_seat, IsSeatOf, probes_of, CanReplay, CanReplayBatch, GoesOnTo, Replays, HasJudged, HasJudgedFront, HasFront, BandProbe}
 use Rattle.roman_repair.proofs.BandAnswers.{known_more, listed_more, passes_more}
 use Rattle.roman_repair.proofs.Keeping.{candidates_step, possible_reason, with_one, with_replay_step}
@@ -6,7 +6,7 @@ use Rattle.roman_repair.proofs.Fronts.{some_in}
 
 -- ---- one entry
 
--- a reason that holds without a seat's outcomes holds where the seat lets it
+-- a reason that holds without a seat's outcomes holds if the seat lets it
 both_justified : (A : Arena ℕ) (gone : ℕ → Bool) (k p : ℕ) (reason : Reason) → IsTrue (is_justified (without_seat A k) gone p reason) → IsTrue (passes A gone (Some k) p reason) → IsTrue (is_justified A gone p reason)
 both_justified A gone k p Final others lets = others
 both_justified A gone k p (Act a) others lets =
@@ -19,7 +19,7 @@ justified : (A : Arena ℕ) (alone : Option ℕ) (kept : List (Entry ℕ)) (x : 
 justified A None kept x L may lets = lets
 justified A (Some k) kept x L may lets = both_justified A (is_listed A kept) k x.node x.reason may.2.0 lets
 
--- a reason doesn't hold where a seat keeps it from holding
+-- if a seat keeps a reason from holding, it doesn't hold
 unjustified : (A : Arena ℕ) (gone : ℕ → Bool) (alone : Option ℕ) (p : ℕ) (reason : Reason) → IsSeatOf A alone → IsFalse (passes A gone alone p reason) → IsFalse (is_justified A gone p reason)
 unjustified A gone None p reason seat off = off
 unjustified A gone (Some k) p Final l off = absurd (false≢true (sym off))
@@ -43,7 +43,7 @@ few_probes A None kept L p reason may possible = omega arith
 few_probes A (Some k) kept L p Final may possible = omega arith
 few_probes A (Some k) kept L p (Act a) may possible = omega (arith, some_counted A.ready A.seats k may.0 may.1, readings_of-allowed A p a possible)
 
--- ---- entries with one answer
+-- ---- entries with equal results
 
 -- a replay of entries that all pass keeps them
 pub all_kept : (A : Arena ℕ) (alone : Option ℕ) (kept L N : List (Entry ℕ)) → AreCandidates A kept (L ++ N) → MayProbeAlone A alone kept (L ++ N) → ((x : Entry ℕ) → IsIn x L → IsTrue (passes A (is_listed A kept) alone x.node x.reason)) →
@@ -59,7 +59,7 @@ all_kept A alone kept (x ∷ L) N are may each =
           (λ y i. passes_more A _ _ alone y.node y.reason (listed_more A kept (x ∷ [])) (each y (inr i)))),
     )
 
--- a replay of entries of which none is justified drops them
+-- a replay of entries that aren't justified drops all of them
 pub none_kept : (A : Arena ℕ) (kept L N : List (Entry ℕ)) → AreCandidates A kept (L ++ N) → ((x : Entry ℕ) → IsIn x L → IsFalse (is_justified A (is_listed A kept) x.node x.reason)) →
     (with_replay A kept N ≡ with_replay A kept (L ++ N)) × AreCandidates A kept N
 none_kept A kept [] N are each = (refl, are)
@@ -72,7 +72,7 @@ none_kept A kept (x ∷ L) N are each =
 pub stays : (A : Arena ℕ) (n : ℕ) (L kept : List (Entry ℕ)) (probe : BandProbe) (steps : ℕ) → CanReplay A n kept probe L → GoesOnTo A n L L kept kept probe steps steps
 stays A n L kept probe steps can = record { list = refl; can = can; cost = omega arith }
 
--- a replay that has gone on to X goes on past the front of X
+-- a replay that has gone on to X can go on past the front of X
 pub replayed_on : (A : Arena ℕ) (n : ℕ) (L E M X kept mid now : List (Entry ℕ)) (on last : BandProbe) (before between after : ℕ) → GoesOnTo A n L X kept mid on before between → X ≡ E ++ M → Replays A n E [] mid now on last between after →
     GoesOnTo A n L M kept now last before after
 replayed_on A n L E M X kept mid now on last before between after first parts second =
@@ -131,7 +131,7 @@ paid : (A : Arena ℕ) (x : Entry ℕ) (L : List (Entry ℕ)) → IsIn x L → r
 paid A x [] i = absurd i
 paid A x (y ∷ L) i = grind (arith, (paid A x L), (sum_by-cons (λ (z : Entry ℕ). readings_of_reason A z.node z.reason) y L))
 
--- the first entries were judged: the replay goes on from the others, and the probes for the first one pay for the steps
+-- the first entries were judged: the replay goes on with the others, and the probes for the first one pay for the steps
 judged : (A : Arena ℕ) (n rest front held : ℕ) (holds : Bool) (e : Batch) (old new : Board) (probe now : BandProbe) (before after : ℕ) → HasFront e.lanes held front rest holds →
     ((N : List (Entry ℕ)) → CanReplay A n old.list probe (entries_in n e.row front e.reason ++ N) → (with_replay A new.list N ≡ with_replay A old.list (entries_in n e.row front e.reason ++ N)) × CanReplay A n new.list now N) →
     ((lane : ℕ) → is_on front lane ≡ true → IsTrue (is_possible A (e.row * n + lane) e.reason) → after ≤ before + probes_of A probe.alone (e.row * n + lane) e.reason) → new ≡ record old { list = new.list } →
@@ -192,9 +192,9 @@ dropped A n rest front held e old probe now before after can split each all know
     (same, record { candidates = are; may = subst (λ o. MayProbeAlone A o old.list N) (sym all) tt; known = known }))
     (λ lane on. cost lane (within lane on)) refl
 
--- ---- what a batch stands for, lane by lane
+-- ---- the entries for which a batch stands, lane by lane
 
--- what the remaining lanes stand for can be replayed
+-- the entries for which the remaining lanes stand can be replayed
 pub judge_rest : (A : Arena ℕ) (row lanes : ℕ) (entries : Batch → List (Entry ℕ)) (left : ℕ) (e : Batch) (old new : Board) (probe now : BandProbe) (before after : ℕ) → CanReplayBatch A row lanes entries old probe e → HasJudged A row entries e left old new probe now before after →
     left ≢ 0 → CanReplayBatch A row lanes entries new now (record e { lanes = left })
 judge_rest A row lanes entries left e old new probe now before after can is ne = record {
@@ -203,7 +203,7 @@ judge_rest A row lanes entries left e old new probe now before after can is ne =
   ready = (let (N, ready) = can.ready in (N, (is.replayed.goes_on N ready).can));
 }
 
--- nothing was judged yet
+-- before the first lane, no entry was judged
 pub judged_none : (A : Arena ℕ) (row : ℕ) (entries : Batch → List (Entry ℕ)) (e : Batch) (order : Board) (probe : BandProbe) (steps : ℕ) → 0 < length (set_lanes e.lanes) → HasJudged A row entries e e.lanes order order probe probe steps steps
 judged_none A row entries e order probe steps some = record { some = λ ne. some; within = λ lane on. on; replayed = replays_none A row (entries e) order.list probe steps; rest = refl }
 
@@ -217,7 +217,7 @@ judged_on A row entries left rest e old mid new probe on now before between afte
   rest = second.rest ∙ ap (λ (b : Board). record b { list = new.list }) first.rest;
 }
 
--- at the end all were
+-- after the last lane, all entries were judged
 pub judged_all : (A : Arena ℕ) (row : ℕ) (entries : Batch → List (Entry ℕ)) (left : ℕ) (e : Batch) (old new : Board) (probe now : BandProbe) (before after : ℕ) → HasJudged A row entries e left old new probe now before after → left ≡ 0 → entries (record e { lanes = 0 }) ≡ [] →
     Replays A row (entries e) [] old.list new.list probe now before after
 judged_all A row entries left e old new probe now before after is none empty =
@@ -227,7 +227,7 @@ judged_all A row entries left e old new probe now before after is none empty =
 pub no_entries : (n x : ℕ) (reason : Reason) → entries_in n x 0 reason ≡ []
 no_entries n x reason = ap (map (λ lane. as_entry (x * n + lane, reason))) set_lanes-zero
 
--- entries before others
+-- a replay of some entries, with other entries after them
 pub replays_front : (A : Arena ℕ) (n : ℕ) (L M X kept now : List (Entry ℕ)) (probe on : BandProbe) (before after : ℕ) → X ≡ L ++ M → Replays A n L [] kept now probe on before after → Replays A n X M kept now probe on before after
 replays_front A n L M X kept now probe on before after parts is = record {
   goes_on = λ N can. (

@@ -22,7 +22,7 @@ possible-turned : (s : Sys) (k : ℕ) (frozen : Bool) (p : ℕ) (reason : Reason
 possible-turned s k frozen p Final = refl
 possible-turned s k frozen p (Act a) = number_allows-turned s k frozen p a
 
--- the candidates are the same where a service freezes or thaws
+-- after a service freezes or thaws, the candidates are the same
 pub turned_candidates : (s : Sys) (k : ℕ) (frozen : Bool) (L : List (Entry ℕ)) → AreCandidates (numbered s) [] L → AreCandidates (numbered (turned s k frozen)) [] L
 turned_candidates s k frozen L are = grind (arith, nodes-turned, possible-turned)
 
@@ -37,7 +37,7 @@ relation_candidates joint order known relation in_range =
 -- the number of a system's pairs
 pub ruleset counted = (length-below)
 
--- a system to which a list was readmitted, after a thaw or a join: what the list grows to is the renamed list, and can be replayed there
+-- a system to which a list was readmitted, after a thaw or a join: the list grows to the renamed list, which can be replayed there
 pub record IsReadmission (change : Change) (n joint : NamedSys) (newcomer : Newcomer) (order : Board) : Type 0 where
   pub replays : NumbersReplay change (system_of n) order.list
   pub system : system_of joint ≡ after change (system_of n)
@@ -47,7 +47,7 @@ pub record IsReadmission (change : Change) (n joint : NamedSys) (newcomer : Newc
 pub can_readmit : (change : Change) (n joint : NamedSys) (newcomer : Newcomer) (order : Board) → IsReadmission change n joint newcomer order → CanReadmit (system_of joint) newcomer order
 can_readmit change n joint newcomer order is = subst (λ (t : Sys). CanReadmit t newcomer order) (sym is.system) is.can
 
--- the replayed and completed list is what the repair should end in
+-- the replayed and completed list is that of the repaired relation
 pub readmitted : (change : Change) (n mid joint : NamedSys) (newcomer : Newcomer) (order new : Board) (tally : Tally) → IsReadmission change n mid newcomer order → IsSettledOn mid (replay_grown (system_of mid) newcomer order) joint new tally → IsRepaired change n order joint new tally
 readmitted change n mid joint newcomer order new tally is settled =
     repaired_from _ _ _ _ _ _ _ _ is.replays (ap₂ (λ (t : Sys) L. replay (numbered t) L) is.system is.those) is.system settled
@@ -66,7 +66,7 @@ ready_there seats k ready = grind (arith, cases_lt, slice_get_past)
 pub whole_replay : (change : Change) (s : Sys) (old new : List (Entry ℕ)) → NumbersReplay change s old → KeepsAll change → new ≡ rename_numbers change (sizes_of s) old → new ≡ numbers_replayed change s old
 whole_replay change s old new replays all list = list ∙ sym (replays.whole all)
 
--- the repair can go on from the renamed list
+-- the repair can begin with the renamed list
 pub whole_begun : (change : Change) (old_joint new_joint : NamedSys) (seats : List declared.Seat) (old new : Board) → NumbersReplay change (system_of old_joint) old.list → KeepsAll change → HasCaps old_joint old →
     new_joint ≡ record old_joint { seats = seats } → system_of new_joint ≡ after change (system_of old_joint) → new.list ≡ rename_numbers change (sizes_of (system_of old_joint)) old.list →
     IsShaped (arena_of new_joint) (lanes_in (system_of new_joint)) new → new.cap_pairs ≡ old.cap_pairs → new.waiting ≡ [] → IsBegun new_joint new

@@ -14,12 +14,12 @@ abbrev pub AreKept : {N : Type 0} → Arena N → List (Entry N) → List (Entry
 AreKept A kept [] = Unit {0}
 AreKept A kept (x ∷ L) = IsTrue (is_justified A (is_listed A kept) x.node x.reason) × AreKept A (kept ++ x ∷ []) L
 
--- the seat, if there is one, is in the system
+-- the seat, if it is given, is in the system
 abbrev pub IsSeatOf : Arena ℕ → Option ℕ → Type 0
 IsSeatOf A None = Unit {0}
 IsSeatOf A (Some k) = k < A.seats
 
--- the seat, if there is one, is ready, and without its outcomes all candidates would be kept
+-- the seat, if it is given, is ready, and without its outcomes all candidates would be kept
 abbrev pub MayProbeAlone : Arena ℕ → Option ℕ → List (Entry ℕ) → List (Entry ℕ) → Type 0
 MayProbeAlone A None kept L = Unit {0}
 MayProbeAlone A (Some k) kept L = (k < A.seats) × IsTrue (A.ready k) × AreKept (without_seat A k) kept L

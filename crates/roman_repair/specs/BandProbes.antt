@@ -13,7 +13,7 @@ use Rattle.roman_repair.specs.declared.band_probe.BandProbe.{BandProbe}
 pub record IsKnown (A : Arena ℕ) (lanes : ℕ) (gone : ℕ → Bool) (alone : Option ℕ) (x : ℕ) (reason : Reason) (word : ℕ) : Type 0 where
   pub each : (lane : ℕ) → lane < lanes → is_on word lane ≡ true → IsTrue (passes A gone alone (x * lanes + lane) reason)
 
--- what is known holds: the row's reason at its lanes, and the band's reason at each lane that its words have
+-- the stored results are right: the row's reason holds at its lanes, and the band's reason at each lane that its words have
 pub record HoldsInBand (A : Arena ℕ) (lanes : ℕ) (gone : ℕ → Bool) (probe : BandProbe) : Type 0 where
   pub row : IsKnown A lanes gone probe.alone probe.row.row probe.row.reason probe.row.lanes
   pub rows : (i : ℕ) → i < probe.rows → IsKnown A lanes gone probe.alone (probe.first + i) probe.reason (slice_index probe.words i)
@@ -25,7 +25,7 @@ pub record CanProbe (A : Arena ℕ) (lanes : ℕ) (alone : Option ℕ) (words : 
   pub reason : IsReasonOf A e.reason
   pub room : length words * lanes ≡ length A.nodes
 
--- the row was probed: the answer has the lanes at which the reason passes, what was known stays known, and the steps are the probes
+-- the row was probed: the result has the lanes at which the reason passes, the stored results stay right, and the steps are the probes
 pub record HasProbed (A : Arena ℕ) (lanes : ℕ) (words : List ℕ) (e : Batch) (old new : BandProbe) (answer before after : ℕ) : Type 0 where
   pub holds : (gone : ℕ → Bool) → AreRows lanes (λ q. not (gone q)) words → (lane : ℕ) → lane < lanes → is_on answer lane ≡ passes A gone old.alone (e.row * lanes + lane) e.reason
   pub known : (gone : ℕ → Bool) → AreRows lanes (λ q. not (gone q)) words → HoldsInBand A lanes gone old → HoldsInBand A lanes gone new

@@ -17,7 +17,7 @@ use Rattle.roman_order.specs.Batches.{IsBatch, entries_at}
 use Rattle.roman_order.specs.declared.batch.Batch.{Batch}
 use Rattle.roman_repair.specs.declared.dying.renaming.Leaver.{Leaver}
 
--- the renamed entries, of those in which seat k may leave its state behind
+-- the entries in which seat k may leave its state behind, renamed
 abbrev pub entries_left : Sizes → ℕ → Seat → List (Entry ℕ) → List (Entry ℕ)
 entries_left n k seat W = map (number_entry_without k n) (filter (λ x. may_go k seat (pair_at n x.node)) W)
 
@@ -25,7 +25,7 @@ entries_left n k seat W = map (number_entry_without k n) (filter (λ x. may_go k
 abbrev pub list_with : Sizes → ℕ → Seat → List (Entry ℕ) → List (Entry ℕ) → List (Entry ℕ)
 list_with n k seat L W = L ++ first_numbers (nodes_of L) (entries_left n k seat W)
 
--- the entries for the pairs `first + i`, where i is a bit of the word, all for one reason
+-- the entries for the pairs `first + i`, for each bit i of the word, all for one reason
 abbrev pub entries_from : ℕ → ℕ → Reason → List (Entry ℕ)
 entries_from first word reason = map (λ i. as_entry (first + i, reason)) (set_lanes word)
 
@@ -46,13 +46,13 @@ pub record IsWithin (s : Sys) (e : Batch) : Type 0 where
   pub batch : IsBatch (lanes_in s) e
   pub nodes : (x : Entry ℕ) → IsIn x (entries_at (lanes_in s) e) → x.node < count (sizes_of s)
 
--- the pairs `first + i`, where i is a bit of the word, are pairs of one part
+-- the pairs `first + i`, for each bit i of the word, are pairs of one part
 pub record AreInPart (n : Sizes) (k first word : ℕ) : Type 0 where
   pub seat : k < length n.seats
   pub inside : first < count n
   pub pair : (i : ℕ) → is_on word i ≡ true → first + i < count n
   pub part : (width : ℕ) × (j : ℕ) × IsPart n.seats k width × (first ≡ j * width) × ((i : ℕ) → is_on word i ≡ true → i < width)
 
--- a renaming of the entries L after the list `old` has gone on to one of M after the list `new`: it comes to the same end
+-- renaming the entries M after the list `new` has the same result as renaming the entries L after the list `old`
 pub record Renames (s : Sys) (k : ℕ) (L M old new : List (Entry ℕ)) : Type 0 where
   pub list : (seat : Seat) → CanChange (Die k seat) s → list_with (sizes_of s) k seat new M ≡ list_with (sizes_of s) k seat old L

@@ -1,4 +1,4 @@
--- What a replay of grown entries goes on from, and what it comes to.
+-- The beginning and the end of a replay of grown entries.
 use Rattle.std.specs.Prelude.{◌≡◌, ℕ, ◌+◌, ◌<◌, ◌≤◌, ◌^◌, true, List, [], ◌++◌, Some, flat_map, length}
 use Rattle.roman_lanes.specs.Rows.{is_on}
 use Rattle.roman_model.specs.Lists.{IsIn}
@@ -16,7 +16,7 @@ use Rattle.roman_repair.specs.Replays.{AreCandidates, AreSlices, candidates, rea
 use Rattle.roman_repair.specs.declared.band_probe.BandProbe.{BandProbe}
 use Rattle.roman_repair.specs.declared.replaying.Newcomer.{Newcomer}
 
--- what the entries of a batch from before the newcomer grow to
+-- the entries to which those of a batch from before the newcomer grow
 abbrev pub entries_grown : Newcomer → Batch → List (Entry ℕ)
 entries_grown newcomer e = flat_map (grown_numbers newcomer.states) (entries_at newcomer.lanes e)
 
@@ -26,7 +26,7 @@ pub record CanGrow (A : Arena ℕ) (row : ℕ) (newcomer : Newcomer) (e : Batch)
   pub batch : IsBatch newcomer.lanes e
   pub nodes : (x : Entry ℕ) → IsIn x (entries_grown newcomer e) → x.node < length A.nodes
 
--- what the first entries of a batch grow to are the entries of another batch, and the entries for the lanes `rest` are left
+-- the first entries of a batch grow to the entries of another batch, and the entries for the lanes `rest` are left
 pub record IsGrown (row : ℕ) (newcomer : Newcomer) (e grown : Batch) (rest : ℕ) : Type 0 where
   pub batch : IsBatch row grown
   pub parts : entries_grown newcomer e ≡ entries_at row grown ++ entries_grown newcomer (record e { lanes = rest })
@@ -34,7 +34,7 @@ pub record IsGrown (row : ℕ) (newcomer : Newcomer) (e grown : Batch) (rest : �
   pub fits : rest < 2 ^ 64
   pub fewer : length (set_lanes rest) < length (set_lanes e.lanes)
 
--- what the waiting entries from before the newcomer stand for can be replayed, and the newcomer may be probed alone
+-- the entries for which the waiting ones from before the newcomer stand can be replayed, and the newcomer may be probed alone
 pub record CanReplayAll (A : Arena ℕ) (row : ℕ) (newcomer : Newcomer) (order : Board) : Type 0 where
   pub shaped : IsShaped A row order
   pub slices : AreSlices row newcomer.lanes newcomer.states
@@ -48,15 +48,15 @@ pub record HasReplayedAll (A : Arena ℕ) (L : List (Entry ℕ)) (old new : Boar
   pub rest : new ≡ record old { list = new.list; waiting = [] }
   pub cost : after ≤ before + readings_of_entries A L
 
--- what the list grows to
+-- the entries to which the list grows
 abbrev pub list_grown : Newcomer → Board → List (Entry ℕ)
 list_grown newcomer order = flat_map (grown_numbers newcomer.states) order.list
 
--- its replay in a system
+-- the replay, in a system, of the entries to which the list grows
 abbrev pub replay_grown : Sys → Newcomer → Board → List (Entry ℕ)
 replay_grown s newcomer order = replay (numbered s) (list_grown newcomer order)
 
--- what the list grows to can be replayed in the system, and its replay is a removal list there; the newcomer may be probed alone
+-- the entries to which the list grows can be replayed in the system, and their replay is a removal list there; the newcomer may be probed alone
 pub record CanReadmit (s : Sys) (newcomer : Newcomer) (order : Board) : Type 0 where
   pub idle : order.waiting ≡ []
   pub lanes : order.lanes ≡ newcomer.lanes

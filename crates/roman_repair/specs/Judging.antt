@@ -1,4 +1,4 @@
--- What a replay has before it, and how it goes on.
+-- The state of a replay, and its steps.
 use Rattle.std.specs.Prelude.{◌≡◌, ◌≢◌, ℕ, ◌+◌, ◌<◌, ◌≤◌, true, List, ◌++◌, length}
 use Rattle.roman_lanes.specs.Rows.{is_on}
 use Rattle.roman_model.specs.Arena.{Arena, Entry, is_listed}
@@ -17,30 +17,30 @@ pub record CanReplay (A : Arena ℕ) (lanes : ℕ) (kept : List (Entry ℕ)) (pr
   pub may : MayProbeAlone A probe.alone kept L
   pub known : HoldsInBand A lanes (is_listed A kept) probe
 
--- a replay of L after the list `kept` has gone on to one of M after the list `now`: it comes to the same end, and the readings that are left pay for its steps
+-- a replay of M after the list `now` has the same result as one of L after the list `kept`, and the readings of L that aren't readings of M pay for the steps
 pub record GoesOnTo (A : Arena ℕ) (lanes : ℕ) (L M kept now : List (Entry ℕ)) (on : BandProbe) (before after : ℕ) : Type 0 where
   pub list : with_replay A now M ≡ with_replay A kept L
   pub can : CanReplay A lanes now on M
   pub cost : after + readings_of_entries A M ≤ before + readings_of_entries A L
 
--- a replay of L, and of whatever comes next, goes on to one of M
+-- for any later entries, a replay of L and these goes on to one of M and these
 pub record Replays (A : Arena ℕ) (lanes : ℕ) (L M kept now : List (Entry ℕ)) (probe on : BandProbe) (before after : ℕ) : Type 0 where
   pub goes_on : (N : List (Entry ℕ)) → CanReplay A lanes kept probe (L ++ N) → GoesOnTo A lanes (L ++ N) (M ++ N) kept now on before after
 
--- what a batch stands for can be replayed, and other entries after it; its lanes are lanes of a row
+-- the entries for which a batch stands can be replayed, and other entries after them; the batch's lanes are lanes of a row
 pub record CanReplayBatch (A : Arena ℕ) (row lanes : ℕ) (entries : Batch → List (Entry ℕ)) (order : Board) (probe : BandProbe) (e : Batch) : Type 0 where
   pub shaped : IsShaped A row order
   pub batch : IsBatch lanes e
   pub ready : (N : List (Entry ℕ)) × CanReplay A row order.list probe (entries e ++ N)
 
--- what a batch stands for was replayed, up to its lanes `left`
+-- the entries for which a batch stands were replayed, except those for its lanes `left`
 pub record HasJudged (A : Arena ℕ) (row : ℕ) (entries : Batch → List (Entry ℕ)) (e : Batch) (left : ℕ) (old new : Board) (probe on : BandProbe) (before after : ℕ) : Type 0 where
   pub some : left ≢ 0 → 0 < length (set_lanes left)
   pub within : (lane : ℕ) → is_on left lane ≡ true → is_on e.lanes lane ≡ true
   pub replayed : Replays A row (entries e) (entries (record e { lanes = left })) old.list new.list probe on before after
   pub rest : new ≡ record old { list = new.list }
 
--- the first entries of a batch were judged: its lanes `left`, of which there are fewer, are to be judged
+-- the first entries of a batch were judged, and fewer lanes, those of `left`, remain
 pub record HasJudgedFront (A : Arena ℕ) (row : ℕ) (e : Batch) (left : ℕ) (old new : Board) (probe on : BandProbe) (before after : ℕ) : Type 0 where
   pub fewer : length (set_lanes left) < length (set_lanes e.lanes)
   pub judged : HasJudged A row (entries_at row) e left old new probe on before after

@@ -12,7 +12,7 @@ pub record IsCutAt (word front rest cut : ℕ) : Type 0 where
   pub in_rest : (lane : ℕ) → is_on rest lane ≡ true → is_on word lane ≡ true
   pub fits : rest < 2 ^ 64
 
--- the first lanes of a word, all of which `held` has, or none of which it has
+-- the first lanes of a word, which `held` has if `holds` is true, and doesn't have otherwise
 pub record HasFront (word held front rest : ℕ) (holds : Bool) : Type 0 where
   pub parts : set_lanes word ≡ set_lanes front ++ set_lanes rest
   pub some : 0 < length (set_lanes front)
@@ -21,7 +21,7 @@ pub record HasFront (word held front rest : ℕ) (holds : Bool) : Type 0 where
   pub in_rest : (lane : ℕ) → is_on rest lane ≡ true → is_on word lane ≡ true
   pub fits : rest < 2 ^ 64
 
--- the lanes of part i, counted from its first one, and those of the parts after it, where the parts before it have none
+-- the lanes of part i, counted from its first one, and those of the parts after it; the parts before it have none
 pub record IsFirstPart (word width i part rest : ℕ) : Type 0 where
   pub parts : set_lanes word ≡ map (λ lane. i * width + lane) (set_lanes part) ++ set_lanes rest
   pub some : 0 < length (set_lanes part)

@@ -1,4 +1,4 @@
--- What a repair does: the relation is complete for the changed system, and its list begins with the replay.
+-- Repairs: the relation is complete for the changed system, and its list begins with the replay.
 use Rattle.std.specs.Prelude.{◌≡◌, ℕ, ◌+◌, ◌≤◌, List, [], map, length, take, drop}
 use Rattle.roman_model.specs.System.{Sys, Pair}
 use Rattle.roman_model.specs.Arena.{Entry, IsOrder, replay, fall, readings}
@@ -31,7 +31,7 @@ pub record IsRepaired (change : Change) (old_joint : NamedSys) (old : Board) (ne
   pub relation : IsRelation new_joint new
   pub list : GoesOnFromReplay change (system_of old_joint) old.list new.list tally
 
--- this holds of a relation before and after a repair
+-- the second relation is the first one after the change and its repair
 abbrev pub Repairs : Change → Relation → Relation → Tally → Type 0
 Repairs change old new tally = IsRepaired change old.joint old.order new.joint new.order tally
 
@@ -50,7 +50,7 @@ pub record IsSettledOn (old : NamedSys) (begun : List (Entry ℕ)) (new : NamedS
   pub kept : tally.kept ≡ length begun
   pub added : tally.kept + tally.added ≡ length order.list
 
--- this holds of a relation whose list began as `begun`, in the joint `old`
+-- the relation, in the joint `old`, was completed from the list `begun`
 abbrev pub SettlesFrom : NamedSys → List (Entry ℕ) → Relation → Tally → Type 0
 SettlesFrom old begun new tally = IsSettledOn old begun new.joint new.order tally
 

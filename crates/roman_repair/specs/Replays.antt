@@ -1,4 +1,4 @@
--- The entries over which a replay goes, and what it appends to a list.
+-- The candidates of a replay, and the entries that it appends to a list.
 use Rattle.std.specs.Prelude.{◌≡◌, ℕ, ◌<◌, ◌≤◌, Bool, true, List, ◌++◌, ◌*◌, flat_map, length, sum_by, IsTrue, IsFalse}
 use Rattle.roman_model.specs.Lists.{IsIn, HasNoRepeats}
 use Rattle.roman_model.specs.Arena.{Arena, Entry, replay_from}
@@ -32,7 +32,7 @@ readings_of_entries A L = sum_by (λ x. readings_of_reason A x.node x.reason) L
 abbrev pub candidates : ℕ → Board → List (Entry ℕ)
 candidates states board = flat_map (grown_numbers states) board.waiting
 
--- a row has whole slices of so many states, and one of so many lanes becomes whole rows where each lane becomes a slice
+-- a row consists of whole slices of so many states, and a row of so many lanes becomes whole rows if each lane becomes a slice
 pub record AreSlices (row lanes states : ℕ) : Type 0 where
   pub few : lanes ≤ 64
   pub slices : (m : ℕ) × (row ≡ m * states) × (d : ℕ) × (lanes ≡ d * m)

@@ -13,22 +13,22 @@ use roman_order::Batch;
 use roman_rules::{BAND, RowProbe, Rules, tick_ready};
 use std::sync::ledger::Ledger;
 
-/// The row that was probed for a reason last, the band of rows that was probed last, and the pairs of
-/// both at which the reason is known to hold.
+/// The row that was probed last for a reason, the band of rows that was probed last, and the pairs
+/// of both at which the reason is known to hold.
 ///
-/// Neighbouring batches mostly lie in one band and have one reason. The first of their rows is probed
-/// by itself, and the second with the whole band, so that one answer serves the others. What is
-/// known goes on to hold while more pairs are gone. A pair at which the reason didn't hold is probed
-/// again, in its row alone.
+/// Neighbouring batches mostly lie in one band and have one reason. The first of their rows is
+/// probed by itself, and the second with the whole band, so that one probe serves the others. A
+/// reason that is known to hold continues to hold while more pairs are gone. A pair at which the
+/// reason didn't hold is probed again, in its row alone.
 #[derive(Clone, Copy)]
 pub(crate) struct BandProbe {
-    /// The seat that is probed alone. `None` where all seats are probed.
+    /// The seat that is probed alone. `None` if all seats are probed.
     pub(crate) alone: Option<u8>,
     /// The row that was probed by itself last.
     row: RowProbe,
     /// The first row of the band that was probed last.
     first: u32,
-    /// The number of rows of that band. 0 where no band was probed yet.
+    /// The number of rows of that band, or 0 if no band was probed yet.
     rows: u32,
     /// The reason for which the band was probed.
     reason: Reason,
@@ -37,9 +37,9 @@ pub(crate) struct BandProbe {
     words: [u64; BAND],
 }
 
-/// Probes all rows of the band `y` for a reason: the seat `alone` or, where there is none, all seats.
+/// Probes all rows of the band `y` for a reason: the seat `alone`, or all seats if it is `None`.
 /// Sets for each row the lanes at which they let it hold. `words` has the bits of the pairs that
-/// aren't gone. Counts a step for each seat that is probed, where the reason is an action.
+/// aren't gone. If the reason is an action, counts a step for each seat that is probed.
 fn probe_band<J: Rules, L: Ledger>(
     joint: &J,
     words: &[u64],
@@ -83,8 +83,8 @@ fn probe_band<J: Rules, L: Ledger>(
     }
 }
 
-/// Returns the lanes of the batch's row at which the seat `k` keeps its reason from holding. Counts a step
-/// where the reason is an action.
+/// Returns the lanes of the batch's row at which the seat `k` keeps its reason from holding. Counts
+/// a step if the reason is an action.
 fn probe_row_alone<J: Rules, L: Ledger>(
     joint: &J,
     words: &[u64],
@@ -110,7 +110,7 @@ fn probe_row_alone<J: Rules, L: Ledger>(
 }
 
 impl BandProbe {
-    /// Returns a row and a band of which nothing is known.
+    /// Returns a row and a band without results of probes.
     pub(crate) fn nothing(alone: Option<u8>) -> BandProbe
         ensures alone { result.alone ≡ alone }
         ensures known { (A : Arena ℕ) (lanes : ℕ) (gone : ℕ → Bool) → HoldsInBand A lanes gone result }
@@ -129,7 +129,7 @@ impl BandProbe {
         }
     }
 
-    /// Probes all seats from now on, and forgets what is known of one seat.
+    /// Makes later probes probe all seats. Forgets the results of the seat that was probed alone.
     pub(crate) fn probe_all(&mut self)
         ensures alone { self.new.alone ≡ None }
         ensures known { (A : Arena ℕ) (lanes : ℕ) (gone : ℕ → Bool) → HoldsInBand A lanes gone self.old →
@@ -140,8 +140,8 @@ impl BandProbe {
         }
     }
 
-    /// Returns the lanes of the row `x` at which the reason is known to hold: none where another row
-    /// and another band were probed, or for another reason.
+    /// Returns the lanes of the row `x` at which the reason is known to hold. There are none if
+    /// neither the row nor its band was probed last for this reason.
     #[tactic(auto, using(crate::proofs::BandAnswers::none_known))]
     pub(crate) fn known_at(&self, x: u32, reason: Reason) -> u64
         ensures { (A : Arena ℕ) (lanes : ℕ) (gone : ℕ → Bool) → HoldsInBand A lanes gone self.now →
@@ -192,7 +192,7 @@ impl BandProbe {
         self.words[(batch.row % band) as usize]
     }
 
-    /// Returns whether the whole band of the row `x` is to be probed: another of its rows was probed for
+    /// Returns whether to probe the whole band of the row `x`: another of its rows was probed for
     /// the reason just before, and the band wasn't.
     fn is_band_due<J: Rules>(&self, joint: &J, x: u32, reason: Reason) -> bool {
         let band = joint.band();
@@ -204,12 +204,13 @@ impl BandProbe {
         is_second && (self.first != first || self.reason != reason)
     }
 
-    /// Probes the batch's row for its reason, together with the whole band where another of its rows was
-    /// probed just before. Returns the lanes of the row at which the seats that are probed let the reason
-    /// hold. `words` has the bits of the pairs that aren't gone. The action of the reason, if it has one,
-    /// must be one of the system.
+    /// Probes the batch's row for its reason, together with the whole band if another of its rows
+    /// was probed just before. Returns the lanes of the row at which the seats that are probed let
+    /// the reason hold. `words` has the bits of the pairs that aren't gone. The action of the
+    /// reason, if it has one, must be one of the system.
     ///
-    /// Counts a step for each seat that is probed, where the reason is an action that is allowed in the row.
+    /// If the reason is an action that is allowed in the row, counts a step for each seat that is
+    /// probed.
     pub(crate) fn probe_batch<J: Rules, L: Ledger>(
         &mut self,
         joint: &J,

@@ -1,5 +1,5 @@
-//! Replays batches. A batch is a run of waiting entries of one row with one reason. An entry is
-//! kept where the entries kept before it justify it.
+//! Replays batches. A batch has waiting entries of one row with one reason. An entry is kept if the
+//! entries kept before it justify it.
 ghost use Rattle.std.specs.Prelude.{◌≡◌, []};
 ghost use Rattle.roman_order.specs.Batches.{entries_at};
 ghost use Rattle.roman_repair.specs.Judging.{CanReplayBatch, HasJudgedFront, Replays};
@@ -11,10 +11,10 @@ use roman_order::{Batch, Order};
 use roman_rules::Rules;
 use std::sync::ledger::Ledger;
 
-/// Judges the first entries of the batch that have one answer, and returns the remaining lanes. Lists
-/// those that are known to be justified. If the first one isn't, probes the row, one seat alone where
-/// only that one can keep an entry from being justified, and lists or drops the entries that have the
-/// answer of the first. Once an entry is dropped, all seats must be probed.
+/// Judges the first entries of the batch with equal results, and returns the remaining lanes. If
+/// the first entry is known to be justified, lists all of them. Otherwise probes the row, and lists
+/// or drops those with the result of the first. Probes one seat alone while only that seat can keep
+/// an entry from being justified. Once an entry is dropped, all seats must be probed.
 fn keep_front<J: Rules, L: Ledger>(
     joint: &J,
     order: &mut Order,
@@ -46,8 +46,8 @@ fn keep_front<J: Rules, L: Ledger>(
 }
 
 /// Replays the entries of the batch, in rising order of the lanes, and appends those that it keeps
-/// to the list. What is known of the row stays valid, so an answer of the row serves several
-/// entries. The number of steps is at most the number of readings of all the entries.
+/// to the list. The result of a probe stays valid, so one probe of the row serves several entries.
+/// The number of steps is at most the number of readings of all the entries.
 pub(crate) fn keep_lanes<J: Rules, L: Ledger>(
     joint: &J,
     order: &mut Order,

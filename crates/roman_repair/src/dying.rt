@@ -17,9 +17,9 @@ use roman_relation::Relation;
 use std::sync::ledger::Ledger;
 
 /// Removes the service at place `k` from the system, whatever its state. Later services move up by
-/// one place. Considers only the entries in which the service may leave its state behind: it
-/// doesn't rest, or the state is final. Of these the list keeps the first entry of each renamed
-/// pair. All of them are still justified, so no row is probed for them. Allocates no memory.
+/// one place. Considers only the entries in which the service may leave its state behind: it is
+/// loose, or the state is final. Of these the list keeps the first entry of each renamed pair. All
+/// of them are still justified, so no row is probed for them. Allocates no memory.
 ///
 /// The number of steps is at most the number of delegations that lead to added pairs. Requires a
 /// complete list.

@@ -18,14 +18,14 @@ use std::sync::ledger::Ledger;
 
 /// Adds the service `seat` at the last place. The service must be ready, its name new, and its
 /// behaviour a place of the catalogue. Grows each entry of the old list into one entry for each
-/// state of the newcomer, and replays these: keeps an entry exactly where the entries kept before
-/// it justify it. Allocates no memory. The number of steps is at most the number of delegations
-/// that lead to added pairs plus the number of delegations of an allowed action to a ready service
-/// in the new system.
+/// state of the newcomer, and replays these: keeps an entry exactly if the entries kept before it
+/// justify it. Allocates no memory. The number of steps is at most the number of delegations that
+/// lead to added pairs plus the number of delegations of an allowed action to a ready service in
+/// the new system.
 ///
 /// Requires a complete list. Fails with `Full` exactly when there are already 32 services. Fails
 /// with `Limit` exactly when there are fewer and the system with the service has more cells than
-/// the limit. On failure the relation stays as it is, and no step is counted.
+/// the limit. On failure the relation stays unchanged, and no step is counted.
 pub fn join<L: Ledger>(
     relation: &mut Relation,
     seat: Seat,

@@ -13,8 +13,8 @@ fn cut_at(word: u64, end: u32) -> (u64, u64)
     (front, word & !front)
 }
 
-/// Splits off the first lanes of `word` that `held` has too if it has the first one, and else those that it
-/// doesn't have. Returns them, the other lanes, and whether `held` has them. Requires a lane.
+/// Splits off the first lanes of `word` that are alike: all of them are lanes of `held`, or none
+/// is. Returns them, the other lanes, and whether `held` has them. Requires a lane.
 #[tactic(auto, using(crate::proofs::Fronts::first_low, crate::proofs::Fronts::held_front, crate::proofs::Fronts::other_front))]
 pub(crate) fn first_alike(word: u64, held: u64) -> (u64, u64, bool)
     requires { 0 < length (set_lanes word) }
@@ -28,7 +28,7 @@ pub(crate) fn first_alike(word: u64, held: u64) -> (u64, u64, bool)
     (front, rest, false)
 }
 
-/// Splits off the first part of a word that has a lane, where each part has `width` lanes. Returns its
+/// Splits off the first part of a word that has a lane. Each part has `width` lanes. Returns its
 /// number, its lanes from its first one on, and the lanes of the later parts. Requires a lane.
 pub(crate) fn first_part(word: u64, width: u32) -> (u32, u64, u64)
     requires some { 0 < length (set_lanes word) }
@@ -51,8 +51,8 @@ fn lanes_between(begin: u32, end: u32) -> u64
     (u64::MAX >> (64 - end)) & !((1 << begin) - 1)
 }
 
-/// Returns the first of the word's lanes from `from` on, or `end` where it has none before `end`. Requires
-/// `from` at most `end`, and `end` at most 64.
+/// Returns the first of the word's lanes from `from` on, or `end` if it has none before `end`.
+/// Requires `from` at most `end`, and `end` at most 64.
 fn next_lane(word: u64, from: u32, end: u32) -> u32
     requires { (from ≤ end) × (end ≤ 64) }
     ensures range { (from ≤ result) × (result ≤ end) }
@@ -65,8 +65,8 @@ fn next_lane(word: u64, from: u32, end: u32) -> u32
     (from + (word >> from).trailing_zeros()).min(end)
 }
 
-/// Returns the first `lanes` lanes of a word, each spread to as many neighbours as `width`. Takes a
-/// turn for each run of neighbouring lanes.
+/// Returns the first `lanes` lanes of a word, each spread to as many neighbours as `width`. Takes
+/// one iteration for each group of neighbouring lanes.
 pub(crate) fn spread_lanes(word: u64, lanes: u32, width: u32) -> u64
     requires { (0 < width) × (lanes * width ≤ 64) }
     ensures { IsSpread word result lanes width }

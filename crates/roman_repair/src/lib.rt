@@ -2,12 +2,12 @@
 //!
 //! Each call changes the system of a relation by one service and repairs the removal list in place.
 //! It renames the list to the pairs of the new system, keeps the entries that are still justified,
-//! in their order, and then completes the list. It probes rows and bands of rows, not pairs, whether
-//! entries are justified: what they answer about a reason serves the entries of their neighbours. After
-//! a thaw or a join only the changed service is probed, until an entry is dropped. A freeze and a death
-//! keep their entries without probing. No call allocates memory. Each call requires a
+//! in their order, and then completes the list. To find which entries are justified, it probes rows
+//! and bands of rows, not pairs. So one probe serves the entries of neighbouring pairs. After a
+//! thaw or a join only the changed service is probed, until an entry is dropped. A freeze and a
+//! death keep their entries without probing. No call allocates memory. Each call requires a
 //! complete removal list, as [`Relation::build`](roman_relation::Relation::build) leaves it, and
-//! leaves a complete one. `specs/Repairs` says what a repaired relation is.
+//! leaves a complete one. `specs/Repairs` defines a repaired relation.
 #![tactic(auto)]
 
 mod band_probe;

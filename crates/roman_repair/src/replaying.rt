@@ -17,20 +17,20 @@ use std::sync::ledger::Ledger;
 pub(crate) struct Newcomer {
     /// Its place.
     pub(crate) k: u8,
-    /// The number of pairs for which an entry stands: of its states where it joined, and 1 where it thawed.
-    /// Each lane of a row becomes as many neighbours.
+    /// The number of pairs for which an entry stands: the number of its states if it joined, and 1
+    /// if it thawed. Each lane of a row becomes as many neighbours.
     pub(crate) states: u8,
     /// The number of lanes of a row before the change.
     pub(crate) lanes: u32,
 }
 
-/// Returns the batch for the first row with a pair for which the entries of the batch stand, and the
-/// lanes of the batch whose entries stand for pairs of other rows.
+/// The entries of the batch stand for pairs of one or more rows. Returns the batch for the first of
+/// these rows, and the lanes of the batch whose entries stand for pairs of other rows.
 fn first_grown<J: Rules>(joint: &J, newcomer: Newcomer, batch: Batch) -> (Batch, u64)
     requires { CanGrow (J.arena joint.now) (J.lanes joint.now) newcomer batch }
     ensures { IsGrown (J.lanes joint.now) newcomer batch result.0 result.1 }
 {
-    joint.known(); // a row has 1 to 64 lanes, a pair's number fits 32 bits
+    joint.known(); // a row has 1 to 64 lanes, a pair's number fits in 32 bits
     let width = u32::from(newcomer.states);
     let slices = joint.lanes() / width;
     let (i, part, rest) = first_part(batch.lanes, slices);
@@ -42,8 +42,8 @@ fn first_grown<J: Rules>(joint: &J, newcomer: Newcomer, batch: Batch) -> (Batch,
     (grown, rest)
 }
 
-/// Replays the pairs for which the entries of the batch stand. Its row becomes one or more whole rows, or
-/// stays as it is.
+/// Replays the pairs for which the entries of the batch stand. Its row becomes one or more whole
+/// rows, or stays unchanged.
 fn keep_grown<J: Rules, L: Ledger>(
     joint: &J,
     order: &mut Order,
@@ -59,7 +59,7 @@ fn keep_grown<J: Rules, L: Ledger>(
         (entries_grown newcomer batch) [] order.old.list order.new.list probe.old probe.new steps.old steps.new }
     ensures rest { order.new ≡ record order.old { list = order.new.list } }
 {
-    joint.known(); // a pair's number fits 32 bits, a row has 1 to 64 lanes
+    joint.known(); // a pair's number fits in 32 bits, a row has 1 to 64 lanes
     if newcomer.states == 1 && newcomer.lanes == joint.lanes() {
         return keep_lanes(joint, order, probe, batch, steps);
     }

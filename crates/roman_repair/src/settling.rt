@@ -12,8 +12,7 @@ use roman_relation::Relation;
 use roman_rules::Rules;
 use std::sync::ledger::Ledger;
 
-/// Completes the list. Returns the number of entries that it began with and the number of added
-/// entries.
+/// Completes the list. Returns the number of entries before that, and the number of added entries.
 pub(crate) fn settle_on<L: Ledger>(relation: &mut Relation, steps: &mut Steps<L>) -> Tally
     requires { IsBegun relation.old.joint relation.old.order }
     ensures settled { SettlesFrom relation.old.joint relation.old.order.list relation.new result }
@@ -42,7 +41,7 @@ pub(crate) fn replay_and_settle_on<L: Ledger>(
         (system_of relation.old.joint) newcomer relation.old.order) relation.new result }
     ensures cost { IsWithinReading relation.new result steps.old steps.new }
 {
-    relation.joint.known(); // allowed actions are actions of the system, a pair's number fits 32 bits
+    relation.joint.known(); // allowed actions are in the system, a pair's number fits in 32 bits
     let rows = relation.joint.rows();
     relation.order.reopen(rows, relation.joint.lanes());
     replay(&relation.joint, &mut relation.order, newcomer, steps);

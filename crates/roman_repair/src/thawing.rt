@@ -16,9 +16,9 @@ use roman_rules::Rules;
 use std::sync::ledger::Ledger;
 
 /// Thaws the frozen service at place `k`, so that it takes delegations again. Replays the old list:
-/// keeps an entry exactly where the entries kept before it still justify it. Allocates no memory.
-/// The number of steps is at most the number of delegations that lead to added pairs plus the
-/// number of delegations of an allowed action to a ready service in the new system.
+/// keeps an entry exactly if the entries kept before it still justify it. Allocates no memory. The
+/// number of steps is at most the number of delegations that lead to added pairs plus the number of
+/// delegations of an allowed action to a ready service in the new system.
 ///
 /// Requires a complete list.
 pub fn thaw<L: Ledger>(relation: &mut Relation, k: u8, steps: &mut Steps<L>) -> Tally

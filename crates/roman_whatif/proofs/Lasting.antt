@@ -89,9 +89,9 @@ pub still_there : (way : Way) (k j : ℕ) (old mid : NamedSys) (order : Board) (
 still_there way.Freeze k j old mid order p q l within left = grind (arith, freeze_one, length-map, length-set_frozen)
 still_there way.Die k j old mid order p q l within left = grind (arith, leave_one, length-map, length-remove)
 
--- The outlooks of what remains, and further failures there.
+-- The outlooks of remaining systems, and further failures there.
 
--- the outlook in the system in which the seats failed is the one of what remains
+-- the outlook in the system in which the seats failed is that of the remaining pair
 pub told_left : (way : Way) (K L : List ℕ) (base old new : NamedSys) (order : Board) (p q : ℕ) (o : Outlook) → old ≡ base → K ≡ L → IsLeft way K old p new order q →
     o ≡ outlook (system_of new) (pair_at (sizes_of (system_of new)) q) → o ≡ left_of base p way L
 told_left way K L base old new order p q o same these left is = rw (← same, ← these) (is ∙ ap₂ outlook left.system left.pair)

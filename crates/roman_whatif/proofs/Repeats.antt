@@ -56,7 +56,7 @@ alike_second parts p k i way alike l =
 
 -- Tables.
 
--- a row is told by the row before, if the two services and the one before are alike
+-- a row is copied from the row before, if the two services and the one before are alike
 pub row_repeats : (parts : NamedSys) (p b c : ℕ) (way : Way) (old new : List declared.Outlook) → b ≡ suc c → AreAlike parts p c → AreAlike parts p b → IsToldOf parts p way b old →
     ((k : ℕ) → k < b → told_at new (32 * b + 32 + k) ≡ told_at old (32 * b + k)) → ((k : ℕ) → k + 1 ≡ b → told_at new (32 * b + 32 + b) ≡ told_at old (32 * b + k)) →
     told_at new (32 * b + 33 + b) ≡ told_at old (32 * b + b) → IsToldOf parts p way (suc b) new

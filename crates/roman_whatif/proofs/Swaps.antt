@@ -9,7 +9,7 @@ swapped zero (x ∷ []) = x ∷ []
 swapped zero (x ∷ y ∷ xs) = y ∷ x ∷ xs
 swapped (suc k) (x ∷ xs) = x ∷ swapped k xs
 
--- the place to which the element at place j goes then
+-- the place of the element at place j after the swap
 abbrev pub other : ℕ → ℕ → ℕ
 other zero zero = 1
 other zero (suc zero) = 0
@@ -139,7 +139,7 @@ has-other k K j = grind (arith, any_same, eq-eqb, eqb-true, list_any-map, other_
 abbrev swapped_system : ℕ → Sys → Sys
 swapped_system k s = record { env = s.env; target = s.target; seats = swapped k s.seats }
 
--- the pair that stands for a pair there
+-- the pair of the swapped system that corresponds to a pair
 abbrev swapped_pair : ℕ → Pair → Pair
 swapped_pair k p = record { t = p.t; e = p.e; bs = swapped k p.bs }
 

@@ -28,6 +28,6 @@ rows_more parts p way j table new few same so_far last i l = elim (cases_lt i j)
   | inr most ↦ let here : j ≡ i = omega arith in subst (λ n. IsToldOf parts p way n new) here last
 ]
 
--- a whole slice that was lent and comes back as long as it was is the vector
+-- a whole slice that was lent, and comes back with its old length, is the vector
 pub lent_back : {X : Type 0} (n : ℕ) (xs ys : List X) → n ≡ length xs → length ys ≡ length xs → take n (ys ++ drop (length ys) xs) ≡ ys
 lent_back n xs ys long same = ap (λ m. take m (ys ++ drop (length ys) xs)) (long ∙ sym same) ∙ take-append_seam ys (drop (length ys) xs)

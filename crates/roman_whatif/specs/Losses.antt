@@ -41,7 +41,7 @@ pub record AreLosses (parts : NamedSys) (losses : Losses) : Type 0 where
   pub frozen : AreTold parts losses.pair Freeze losses.frozen.items
   pub gone : AreTold parts losses.pair Die losses.gone.items
 
--- the services at the places k and k + 1 are equal but for their names, and in the same state at the pair with the number p
+-- the services at the places k and k + 1 are equal except for their names, and in the same state at the pair with the number p
 pub record AreAlike (parts : NamedSys) (p k : ℕ) : Type 0 where
   pub within : suc k < length parts.seats
   pub seats : slice_get (system_of parts).seats k ≡ slice_get (system_of parts).seats (suc k)

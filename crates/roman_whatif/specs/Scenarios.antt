@@ -1,4 +1,4 @@
--- Failures in one way of services of a relation.
+-- Scenarios: a relation, a pair of it, and the way in which services fail.
 use Rattle.std.specs.Prelude.{ℕ, ◌<◌, List}
 use Rattle.roman_model.specs.Without.{Outlook}
 use Rattle.roman_joint.specs.Pairs.{joint_pairs}

@@ -1,4 +1,4 @@
-//! Services that are equal but for their names, whose failures have the same outlooks.
+//! Finds services that are equal except for their names: their failures have the same outlooks.
 ghost use Rattle.std.specs.Prelude.{◌-◌, ◌<◌, length, IsTrue};
 ghost use Rattle.roman_whatif.specs.Losses.{IsRepeated};
 ghost use Rattle.roman_joint.specs.Pairs.{joint_pairs};

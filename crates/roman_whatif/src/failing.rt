@@ -58,8 +58,8 @@ pub fn without<L: Ledger>(
 }
 
 /// Makes `scratch` the relation `from` after the failure of its service at place `k`. Overwrites
-/// what `scratch` held, and leaves `from` unchanged. Returns the pair that remains of `p`. Requires
-/// that no entry of `scratch` waits.
+/// the contents of `scratch`, and leaves `from` unchanged. Returns the pair that remains of `p`.
+/// Requires that no entry of `scratch` waits.
 pub(crate) fn fail_on<L: Ledger>(
     scratch: &mut Relation,
     from: &Relation,
@@ -116,8 +116,8 @@ fn freeze_seat<L: Ledger>(relation: &mut Relation, p: u32, k: u8, steps: &mut St
 }
 
 /// Removes the service at place `k`, and returns the pair that remains of `p`. Builds the list
-/// anew, whatever it was: that costs less than a repair, because the remaining system is smaller.
-/// Requires that no entry waits.
+/// anew. This costs less than a repair, because the remaining system is smaller. Requires that no
+/// entry waits.
 fn lose_seat<L: Ledger>(relation: &mut Relation, p: u32, k: u8, steps: &mut Steps<L>) -> u32
     requires caps { HasCaps relation.old.joint relation.old.order }
     requires idle { relation.old.order.waiting ≡ [] }

@@ -6,7 +6,7 @@
 //! a scratch, which is a copy of the relation, and leaves the relation unchanged. [`Losses`] tries
 //! the failures of each service and of each two services, and keeps the outlooks in two tables. If
 //! neighbouring services are alike, it tries the failure of one of them and copies the outlook.
-//! `specs/Left` says which system and which pair remain after a failure.
+//! `specs/Left` defines the system and the pair that remain after a failure.
 #![tactic(auto)]
 
 mod alike;

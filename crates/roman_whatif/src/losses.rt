@@ -37,7 +37,7 @@ pub struct Losses {
     pub gone: Vec<Outlook>,
 }
 
-// One call. At each exit of a function that owns losses, a derived drop would be a step for each vector.
+// One call. A derived drop would be a step for each vector at each exit of an owning function.
 impl Drop for Losses {
     fn drop(self) {
         let Losses {
@@ -150,7 +150,7 @@ fn try_both_ways<L: Ledger>(
     })
 }
 
-/// Failures in one way of services of a relation, and a pair whose outlook they change.
+/// A relation, a pair of it, and the way in which services fail.
 #[derive(Clone, Copy)]
 struct Scenario<'a> {
     /// The relation before the failures.
@@ -209,8 +209,8 @@ fn fill_row<L: Ledger>(
 }
 
 /// Fills the row after that of the service at place `before` with copies from that row. The outlook
-/// without that service alone goes one place further on. The outlook without it and the service before
-/// it is copied twice.
+/// without that service alone is stored one place further on. The outlook without it and the
+/// service before it is copied twice.
 fn repeat_row(table: &mut [Outlook], before: u8)
     requires some { (0 < before) × (before < 31) }
     requires room { 32 * before + 64 ≤ length table.old }
@@ -264,9 +264,10 @@ fn try_with<L: Ledger>(
     }
 }
 
-/// Returns the outlook after the services at the places `k` and `j` fail. The middle is without the
-/// service at place `j`, and `left` is what remains of the pair there. If the service at place `k`
-/// and the one before are alike, the row of `j` in the table has the outlook already.
+/// Returns the outlook after the services at the places `k` and `j` fail. In `trials`, the middle
+/// is the relation without the service at place `j`, and `left` is the pair that remains there. If
+/// the service at place `k` and the one before are alike, the row of `j` in the table has the
+/// outlook already.
 fn try_second<L: Ledger>(
     scenario: &Scenario<'_>,
     j: u8,

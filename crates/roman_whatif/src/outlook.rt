@@ -1,4 +1,5 @@
-//! Computes the outlook of a pair: what it can look forward to in a system.
+//! The outlook of a pair: whether it is related, and the numbers of related pairs and of services
+//! in the masks of its system.
 ghost use Rattle.std.specs.Prelude.{◌≡◌, ◌<◌, ◌↔◌, IsTrue};
 ghost use Rattle.roman_model.specs.Composition.{Great};
 ghost use Rattle.roman_model.specs.Numbers.{sizes_of, count, pair_at};

@@ -1,4 +1,4 @@
-//! Changes of the services.
+//! Changes the services of a joint.
 ghost use Rattle.std.specs.Prelude.{◌≡◌, ◌<◌, ◌≤◌, ◌++◌, ◌∷◌, [], ◌↔◌, length, map, Err, OnOk, OnErr, IsSome, IfSome, if◌then◌else◌};
 ghost use Rattle.std.specs.List.{remove};
 ghost use Rattle.roman_model.specs.Lists.{IsIn};
@@ -17,8 +17,8 @@ use roman_model::MAX_SERVICES;
 use roman_radix::Shape;
 
 impl Joint {
-    /// Freezes the service at place `k`, so that it takes no delegations, or makes it ready again.
-    /// Nothing else changes.
+    /// Freezes the service at place `k`, so that it takes no delegations, or thaws it. Nothing else
+    /// changes.
     #[tactic(auto, using(crate::proofs::SeatChanges::frozen_set, crate::proofs::SeatChanges::frozen_system, crate::proofs::SeatChanges::with_seats))]
     pub fn set_frozen(&mut self, k: u8, frozen: bool)
         requires { k < length self.old.seats }
@@ -50,7 +50,7 @@ impl Joint {
     /// Adds a service at the last place. Requires a new name, and a behaviour that is a place of the
     /// catalogue. The pairs get new numbers. Nothing else changes.
     ///
-    /// Fails with `Full` exactly where there are 32 services already, and with `Limit` exactly where
+    /// Fails with `Full` exactly if there are 32 services already, and with `Limit` exactly if
     /// there are fewer and the system with the service has more cells than the limit. The joint is
     /// then unchanged.
     pub fn push_seat(&mut self, seat: Seat) -> Result<(), SeatError>
@@ -84,7 +84,7 @@ impl Joint {
         Ok(())
     }
 
-    // Returns the numbering with one more service, or `None` exactly where the system with it has more
+    // Returns the numbering with one more service, or `None` exactly if the system with it has more
     // cells than the limit. Requires a service with a new name.
     #[tactic(auto, using(crate::proofs::SeatLemmas::states_range))]
     fn shape_with(&self, seat: &Seat) -> Option<Shape>

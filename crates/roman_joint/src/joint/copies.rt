@@ -1,4 +1,4 @@
-//! Making equal joints.
+//! Copies joints.
 ghost use Rattle.std.specs.Prelude.{◌≡◌, ◌≤◌, IfOk, length, vec_capacity};
 ghost use Rattle.roman_joint.specs.Parts.{HasSameParts};
 
@@ -36,8 +36,8 @@ impl Joint {
         })
     }
 
-    /// Makes this joint equal to `from`. Requires the same environment, catalogue, target and limit;
-    /// the services can differ. Takes no memory.
+    /// Makes this joint equal to `from`. Requires the same environment, catalogue, target and
+    /// limit; the services can differ. Allocates no memory.
     pub fn reset_seats_to(&mut self, from: &Joint)
         requires { HasSameParts self.old from.now }
         ensures { self.new ≡ from.now }
@@ -55,7 +55,7 @@ impl Joint {
     }
 }
 
-/// Copies the behaviours.
+/// Copies the behaviours, each with its own tables.
 fn copy_catalogue(alloc: Global, catalogue: &[Behaviour]) -> Result<Vec<Behaviour>, AllocError>
     ensures { IfOk result (λ copies. copies.items ≡ catalogue.now) }
 {

@@ -45,11 +45,11 @@ impl Joint {
         ensures { let s = system_of self.now in
             IsTargetView s.env s.target (pair_at (sizes_of s) p).t (pair_at (sizes_of s) p).e result }
     {
-        self.known(); // a pair's number fits 32 bits
+        self.known(); // a pair's number fits in 32 bits
         self.target_views()[(p / self.shape().env_stride()) as usize]
     }
 
-    /// Returns whether the pair `p` meets clause 2 of an ND-simulation: where the target's state is
+    /// Returns whether the pair `p` meets clause 2 of an ND-simulation: if the target's state is
     /// final, all services that rest are in final states.
     #[tactic(auto, using(crate::proofs::ArenaFacts::pair_count))]
     pub fn final_ok(&self, p: u32) -> bool
@@ -61,10 +61,10 @@ impl Joint {
         (self.unfine(&row) >> (p % lanes)) & 1 != 1
     }
 
-    /// Returns the pairs to which the action `a` can lead from the pair `p`, delegated to the service
-    /// `k`, as the lists of states from which their numbers are computed. Requires that the action is
-    /// allowed at the pair, and that the service is ready. The list of the service's states is empty
-    /// where it has no step.
+    /// Returns the pairs to which the action `a`, delegated to the service `k`, can lead from the
+    /// pair `p`: the lists of states from which their numbers are computed. Requires that the
+    /// action is allowed at the pair, and that the service is ready. The list of the service's
+    /// states is empty if it has no step.
     pub fn outcomes(&self, p: u32, a: u8, k: u8) -> Outcomes<'_>
         requires pair { p < joint_pairs self.now }
         requires seat { k < length self.now.seats }
@@ -76,7 +76,7 @@ impl Joint {
         ensures some { IsFalse (is_empty result.envs.now) }
         ensures few { joint_pairs self.now ≤ MAX_CELLS }
     {
-        self.known(); // behaviours are over the environment, a pair's number fits 32 bits
+        self.known(); // behaviours are over the environment, a pair's number fits in 32 bits
         let shape = self.shape();
         let e = shape.env_of(p);
         let b = shape.part_of(p, k);
@@ -106,9 +106,9 @@ impl Joint {
     }
 }
 
-/// Returns the number of the pair that has the target's state `to`, the environment's state 0 and the
-/// state 0 of component `k`, and otherwise the states of pair `p`. Requires that component `k` has
-/// state `b` at pair `p`.
+/// Returns the number of the pair with the states of the pair `p`, except that the target has state
+/// `to`, and the environment and component `k` have state 0. Requires that component `k` has state
+/// `b` at pair `p`.
 pub(super) fn first_outcome(shape: &Shape, p: u32, to: u8, k: u8, b: u8) -> u32
     requires pair { p < count shape.now }
     requires target { to < shape.now.target }
@@ -117,7 +117,7 @@ pub(super) fn first_outcome(shape: &Shape, p: u32, to: u8, k: u8, b: u8) -> u32
     ensures { (e b : ℕ) → result + e * env_stride_of shape.now + b * stride_of shape.now k
         ≡ number shape.now (moved (pair_at shape.now p) to e k b) }
 {
-    shape.known(); // a pair's number fits 32 bits
+    shape.known(); // a pair's number fits in 32 bits
     let row = u32::from(to) * shape.target_stride() + p % shape.env_stride();
     row - u32::from(b) * shape.stride(k)
 }

@@ -36,9 +36,9 @@ impl Joint {
         }
     }
 
-    /// Takes the next delegation of a walk: the pair from which it leads, the action and the service.
-    /// Returns `None` exactly where none is left. Counts one step for a delegation, and none for the
-    /// end. Requires a walk of this joint, whose services haven't changed since.
+    /// Takes the next delegation of a walk: the pair from which it leads, the action and the
+    /// service. Returns `None` exactly if none is left. Counts one step for a delegation, and none
+    /// for the end. Requires a walk of this joint, whose services haven't changed since.
     pub fn back<L: Ledger>(&self, walk: &mut Walk, steps: &mut Steps<L>) -> Option<(u32, u8, u8)>
         requires { IsWalk (system_of self.now) walk.old }
         ensures walk { IsWalk (system_of self.now) walk.new }
@@ -68,7 +68,7 @@ impl Joint {
             (λ x. left (system_of self.now) walk.old
             ≡ record { node = x.0; action = walk.old.action; seat = x.1 } ∷ left (system_of self.now) walk.new) }
     {
-        self.known(); // the system is well formed, a pair's number fits 32 bits
+        self.known(); // the system is well formed, a pair's number fits in 32 bits
         let place = walk.seat;
         if place >= self.seats() {
             return None;
@@ -88,7 +88,7 @@ impl Joint {
     }
 
     // Moves on to the next service, state of the target, state of the environment or action, and
-    // returns whether there is one. Requires that nothing is left of the current service.
+    // returns whether there is one. Requires that no state of the current service is left.
     fn go_on(&self, walk: &mut Walk) -> bool
         requires walk { IsWalk (system_of self.now) walk.old }
         requires seat { left_of_seat (system_of self.now) walk.old ≡ [] }
@@ -126,7 +126,7 @@ impl Joint {
         ensures { MatchBool result (WalkGoesOn (system_of self.now) walk.old walk.new)
             ((walk.new ≡ walk.old) × (left_of_env (system_of self.now) walk.old ≡ [])) }
     {
-        self.known(); // the system is well formed, a pair's number fits 32 bits
+        self.known(); // the system is well formed, a pair's number fits in 32 bits
         let targets = self.targets_before(walk);
         let taken = walk.targets_taken as usize;
         if taken >= targets.len() {
@@ -163,7 +163,7 @@ impl Joint {
         ensures { MatchBool result (WalkGoesOn (system_of self.now) walk.old walk.new)
             ((walk.new ≡ walk.old) × (left_of_action (system_of self.now) walk.old ≡ [])) }
     {
-        self.known(); // the system is well formed, a pair's number fits 32 bits
+        self.known(); // the system is well formed, a pair's number fits in 32 bits
         let envs = self.envs_before(walk);
         let taken = walk.envs_taken as usize;
         if taken >= envs.len() {

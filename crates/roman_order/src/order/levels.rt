@@ -13,15 +13,15 @@ impl Order {
         self.levels.push_reserved(self.count);
     }
 
-    /// Returns the length of the list at the end of each level, the first level first. Returns no
-    /// lengths where levels aren't kept.
+    /// Returns the length of the list at the end of each level, the first level first. Returns an
+    /// empty slice if the order keeps no levels.
     pub fn levels(&self) -> &[u32]
         ensures { result.now ≡ self.now.levels }
     {
         &self.levels
     }
 
-    /// Forgets all levels. The list stays.
+    /// Forgets all levels. Leaves the list unchanged.
     pub fn forget_levels(&mut self)
         ensures { self.new ≡ record self.old { levels = [] } }
     {

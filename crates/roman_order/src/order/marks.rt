@@ -8,8 +8,8 @@ use super::{Order, refill};
 use crate::flags;
 
 impl Order {
-    /// Marks the number `p`. Requires `p` below the number of pairs. The caller decides what the
-    /// numbers stand for: pairs or bands.
+    /// Marks the number `p`. Requires `p` below the number of pairs. The caller decides whether the
+    /// numbers are those of pairs or of bands.
     pub fn mark(&mut self, p: u32)
         requires { p < pairs_of self.old }
         ensures marked { is_marked self.new p ≡ true }
@@ -41,11 +41,11 @@ impl Order {
         flags::set_front(&mut self.marks, end);
     }
 
-    /// Clears one mark, and returns its number. Searches the words with the flags of the numbers below
-    /// `end`. If `end` isn't a multiple of 64, the last of these words also has flags of higher
-    /// numbers, and the search can find those. Returns `None` exactly where none of these words has a
-    /// set flag. The search continues at the word of the last mark found, and goes round once, so the
-    /// numbers don't come in rising order.
+    /// Clears one mark, and returns its number. Searches the words with the flags of the numbers
+    /// below `end`. If `end` isn't a multiple of 64, the last of these words also has flags of
+    /// higher numbers, and the search can find those. Returns `None` exactly if none of these words
+    /// has a set flag. The search begins at the word of the last mark found, and wraps round once,
+    /// so the numbers don't come in rising order.
     #[tactic(auto, using(crate::proofs::Words::flag_off))]
     pub fn next_marked(&mut self, end: u32) -> Option<u32>
         requires { end ≤ pairs_of self.old }
@@ -66,7 +66,8 @@ impl Order {
         Some(flags::take_first(&mut self.marks, i))
     }
 
-    /// Lends the marks as words of 64 flags, for writing: number p is bit `p % 64` of word `p / 64`.
+    /// Lends the marks as words of 64 flags, which can be written: number p is bit `p % 64` of word
+    /// `p / 64`.
     pub fn marks_mut(&mut self) -> &mut [u64]
         ensures* lends { sem 𝓛 (LendsMarks self.entry result) }
         ensures value { result.now ≡ self.old.marks }

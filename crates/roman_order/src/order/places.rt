@@ -13,9 +13,9 @@ use crate::batch::Batch;
 use crate::flags::{first_lane, is_set, lanes_in};
 
 impl Order {
-    /// Returns the place of the pair `p` in the list, from 0, or `None` where it isn't listed. Looks
-    /// it up if [`place_all`](Order::place_all) was called since the list last changed, and otherwise
-    /// searches for it batch by batch.
+    /// Returns the place of the pair `p` in the list, from 0, or `None` if it isn't listed. Looks
+    /// it up if [`place_all`](Order::place_all) was called since the list last changed, and
+    /// otherwise searches for it batch by batch.
     #[tactic(auto, using(crate::proofs::Tables::stamp_rules))]
     pub fn stamp(&self, p: u32) -> Option<u32>
         requires { p < pairs_of self.now }
@@ -28,7 +28,8 @@ impl Order {
     }
 
     /// Indexes the list for constant-time look-up of places, until the list next changes. Makes one
-    /// pass over the pairs and one over the entries. Takes no memory, since the room is reserved.
+    /// pass over the pairs and one over the entries. Allocates no memory, since the room is
+    /// reserved.
     pub fn place_all(&mut self)
         ensures same { self.new ≡ self.old }
     {
@@ -63,7 +64,7 @@ fn place_in(batches: &[Batch], lanes: u32, p: u32) -> Option<u32>
     None
 }
 
-/// Returns whether `row` is the row `x`, and its word has the lane.
+/// Returns whether `row` is the row `x` and its word has the lane.
 fn has_lane(row: u32, word: u64, x: u32, lane: u32) -> bool
     requires { lane < 64 }
     ensures { result ≡ (row == x && is_on word lane) }

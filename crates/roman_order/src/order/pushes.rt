@@ -1,4 +1,4 @@
-//! Adding entries.
+//! Adds entries to the list.
 ghost use Rattle.std.specs.Prelude.{◌≡◌, ◌≢◌, ℕ, ◌+◌, ◌*◌, ◌<◌, ◌≤◌, true, false, List, [], ◌∷◌, ◌++◌, length, slice_index, vec_capacity};
 ghost use Rattle.roman_lanes.specs.Rows.{is_on};
 ghost use Rattle.roman_order.specs.Board.{pairs_of, as_entry, set_lanes, entries_in, entries_in_rows, has_entry, AreAliveAt};
@@ -48,8 +48,8 @@ impl Order {
         self.push_row::<false>(x, lost, reason);
     }
 
-    /// Adds entries as [`push_lanes`](Order::push_lanes) does. They go into the last batch where that one
-    /// is of the same row and reason and all its lanes are lower.
+    /// Adds entries as [`push_lanes`](Order::push_lanes) does. They go into the last batch if it is
+    /// of the same row and reason and all its lanes are lower.
     #[inline(always)]
     pub fn push_on(&mut self, x: u32, lost: u64, reason: Reason)
         requires row { x < self.old.rows }
@@ -60,7 +60,8 @@ impl Order {
         self.push_row::<true>(x, lost, reason);
     }
 
-    /// Adds the entries of a row. If `JOINS` is true, they go into the last batch where that one takes them.
+    /// Adds the entries of a row. If `JOINS` is true and the last batch can take them, they go into
+    /// it.
     #[inline(always)]
     #[tactic(auto, using(crate::proofs::Tables::few))]
     fn push_row<const JOINS: bool>(&mut self, x: u32, lost: u64, reason: Reason)
@@ -105,8 +106,8 @@ impl Order {
     }
 }
 
-/// Adds a batch to others, which have `count` entries. If `JOINS` is true, its lanes go into the last of
-/// these where that one takes them.
+/// Adds a batch to others, which have `count` entries. If `JOINS` is true and the last of them can
+/// take its lanes, they go into it.
 #[inline(always)]
 fn add_batch<const JOINS: bool>(
     batches: &mut Vec<Batch>,
@@ -139,8 +140,8 @@ fn add_batch<const JOINS: bool>(
     batches.push_reserved(batch);
 }
 
-/// Returns whether the last batch takes the lanes of another one, which has lanes: it is of the same row
-/// and reason, and all its lanes are lower.
+/// Returns whether the last batch can take the lanes of another one: it is of the same row and
+/// reason, and all its lanes are lower. Requires that the other batch has a lane.
 fn takes(batches: &[Batch], batch: Batch) -> bool
     requires { batch.lanes ≢ 0 }
     ensures some { result ≡ true → 0 < length batches.now }
@@ -153,8 +154,8 @@ fn takes(batches: &[Batch], batch: Batch) -> bool
     last.row == batch.row && last.reason == batch.reason && last.lanes >> lowest(batch.lanes) == 0
 }
 
-/// Adds the place of the first entry of a batch after `many` others. A place that equals its number is
-/// left out of the table as long as all places before it are.
+/// Adds the place of the first entry of a batch that follows `many` others. The table leaves out
+/// the places at its front that equal the numbers of their batches.
 #[inline(always)]
 #[tactic(auto, using(crate::proofs::Firsts::push_rules))]
 fn push_first(firsts: &mut Vec<u32>, many: usize, first: u32)

@@ -1,4 +1,4 @@
-//! Reading the list.
+//! Reads the list by places.
 ghost use Rattle.std.specs.Prelude.{◌≡◌, ℕ, ◌+◌, ◌-◌, ◌^◌, ◌<◌, ◌≤◌, true, false, ◌∷◌, ◌++◌, length, take, drop, slice_get, slice_index, slice_index_or, Some};
 ghost use Rattle.std.specs.List.{AllByRecursion};
 ghost use Rattle.roman_lanes.specs.Rows.{is_on};
@@ -52,9 +52,9 @@ impl Order {
         (batch_in(&self.batches, place), first)
     }
 
-    /// Passes over entries from place `i` of the list on whose pairs have no bit in the kept words,
-    /// batch by batch, and returns the place after them, at most the length of the list, with a guess
-    /// of its batch. `near` is a guess of the batch of place `i`. After a wrong guess no entry is
+    /// Passes over the entries from place `i` of the list on whose pairs have no bit in the kept
+    /// words, batch by batch. Returns the place after them, at most the length of the list, and a
+    /// guess of its batch. `near` is a guess of the batch of place `i`. If it is wrong, no entry is
     /// passed over.
     #[tactic(auto, using(crate::proofs::Tables::few))]
     pub fn past_unkept(&self, i: u32, near: usize) -> (u32, usize)
@@ -148,8 +148,8 @@ fn first_of(firsts: &[u32], many: usize, j: usize, count: u32) -> u32
     }
 }
 
-/// Returns the place of the first batch from place `from` on of which some lane is in the word of its
-/// row, or the number of batches.
+/// Returns the place of the first batch from place `from` on that has some lane of the word of its
+/// row. Returns the number of batches if there is none.
 fn next_kept(batches: &[Batch], words: &[u64], from: usize) -> usize
     requires from { from ≤ length batches.now }
     requires rows { AllByRecursion (λ e. e.row < length words.now) batches.now }

@@ -22,7 +22,7 @@ impl Order {
         self.take_ahead(i, ahead)
     }
 
-    /// Takes the first of the entries that were read ahead: the entry at place `i` of the list.
+    /// Takes the entry at place `i` of the list, which is the first of those that were read ahead.
     #[inline(always)]
     #[tactic(auto, using(crate::proofs::Lanes::no_lane, crate::proofs::Reading::drop_next, crate::proofs::Reading::get_first))]
     pub(super) fn take_ahead(&self, i: u32, ahead: &mut Ahead) -> (u32, Reason)
@@ -32,7 +32,7 @@ impl Order {
         ensures entry { slice_get self.now.list i ≡ Some (as_entry result) }
         ensures ahead { IsAhead self.now (i + 1) ahead.new }
     {
-        self.known(); // a pair's number fits 32 bits
+        self.known(); // a pair's number fits in 32 bits
         let batch = ahead.batch;
         let (lane, rest) = first_lane(batch.lanes);
         ahead.batch.lanes = rest;

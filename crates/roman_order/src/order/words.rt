@@ -22,7 +22,7 @@ impl Order {
         &self.before
     }
 
-    /// Keeps the present words of all rows, in one pass over them.
+    /// Stores the present words of all rows as the kept words, in one pass over them.
     pub fn keep_before(&mut self)
         ensures kept { AreRows self.old.lanes (λ p. not (has_entry self.old.list p)) self.new.before }
         ensures long { length self.new.before ≡ self.old.rows }
@@ -31,7 +31,8 @@ impl Order {
         rewrite(&mut self.before, &self.words);
     }
 
-    /// Keeps the present words of `many` rows from the row `x` on. The kept words of other rows stay.
+    /// Stores the present words of `many` rows from the row `x` on as their kept words. Leaves the
+    /// kept words of other rows unchanged.
     pub fn keep_rows(&mut self, x: u32, many: u32)
         requires { x + many ≤ self.old.rows }
         ensures kept { (y : ℕ) → x ≤ y → y < x + many → HasLanes self.old.lanes y
@@ -46,7 +47,7 @@ impl Order {
     }
 }
 
-/// Copies the words from place `from` to before place `to`.
+/// Copies the words from place `from` up to place `to`, without the one at `to`.
 #[inline(always)]
 fn copy_part(table: &mut [u64], words: &[u64], from: usize, to: usize)
     requires { (from ≤ to) × (to ≤ length table.old) × (to ≤ length words.now) }

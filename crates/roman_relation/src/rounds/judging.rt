@@ -1,4 +1,4 @@
-//! Judging the marked bands against the kept words.
+//! Judges the marked bands against the kept words.
 ghost use Rattle.std.specs.Prelude.{◌≡◌, ℕ, ◌+◌, ◌*◌, ◌/◌, ◌<◌, ◌≤◌, Bool, true, false, not, IsTrue, length};
 ghost use Rattle.roman_lanes.specs.Rows.{is_on, AreRows};
 ghost use Rattle.roman_order.specs.Board.{is_marked};
@@ -57,7 +57,7 @@ fn judge<J: Rules>(joint: &J, order: &mut Order, y: u32, is_band: bool, left: &m
     if !is_band {
         return;
     }
-    joint.known(); // a pair's number fits 32 bits, a row has 1 to 64 lanes
+    joint.known(); // a pair's number fits in 32 bits, a row has 1 to 64 lanes
     order.known(); // a row has 1 to 64 lanes
     let x = band_start(joint, order, y);
     if are_listed(joint, order, x) {
@@ -97,7 +97,7 @@ fn judge_on<J: Rules>(joint: &J, order: &mut Order, row: &J::Row, x: u32, a: u8,
         (gone : ℕ → Bool) → AreRows (J.lanes joint.now) (λ p. not (gone p)) order.old.before →
         AddsLost A gone (J.lanes joint.now) x (J.band joint.now) (Reason.Act a) order.old.list order.new.list }
 {
-    joint.known(); // a row has 1 to 64 lanes, a pair's number fits 32 bits
+    joint.known(); // a row has 1 to 64 lanes, a pair's number fits in 32 bits
     order.known(); // each row has a kept word
     copy_rows(order.words(), x, left);
     joint.unserved_band(row, order.before(), a, left);

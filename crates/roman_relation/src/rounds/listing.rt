@@ -1,4 +1,4 @@
-//! Listing pairs of a band.
+//! Lists pairs of a band.
 ghost use Rattle.std.specs.Prelude.{◌≡◌, ℕ, ◌+◌, ◌*◌, ◌<◌, ◌≤◌, true, Bool, IsTrue, length};
 ghost use Rattle.roman_model.specs.Arena.{is_listed};
 ghost use Rattle.roman_relation.specs.Shaped.{IsShaped};
@@ -14,7 +14,7 @@ pub(crate) fn band_start<J: Rules>(joint: &J, order: &Order, y: u32) -> u32
     requires band { y * J.band joint.now + J.band joint.now ≤ order.now.rows }
     ensures { result ≡ y * J.band joint.now }
 {
-    joint.known(); // a pair's number fits 32 bits
+    joint.known(); // a pair's number fits in 32 bits
     order.known(); // a row has 1 to 64 lanes
     y * joint.band()
 }
@@ -27,7 +27,7 @@ pub(crate) fn are_listed<J: Rules>(joint: &J, order: &Order, x: u32) -> bool
         result ≡ true → (i lane : ℕ) → i < J.band joint.now → lane < J.lanes joint.now →
         IsTrue (is_listed A order.now.list ((x + i) * J.lanes joint.now + lane)) }
 {
-    joint.known(); // pairs are told apart by their numbers
+    joint.known(); // no two pairs have the same number
     order.known(); // listed pairs are pairs of the system
     let words = order.words();
     are_clear(&words[x as usize..(x + joint.band()) as usize])
@@ -51,7 +51,7 @@ pub(crate) fn push_lost<J: Rules>(
         AddsLost A gone (J.lanes joint.now) x (J.band joint.now) reason order.old.list order.new.list }
     ensures rest { order.new ≡ record order.old { list = order.new.list } }
 {
-    joint.known(); // pairs are told apart by their numbers
+    joint.known(); // no two pairs have the same number
     order.push_rows(x, lost, reason);
     order.known(); // no pair is listed twice
 }

@@ -1,4 +1,4 @@
-//! Marking the bands that lead to the pairs that a round has listed.
+//! Marks the bands that lead to the pairs that a round has listed.
 ghost use Rattle.std.specs.Prelude.{◌≡◌, ◌≢◌, ℕ, ◌+◌, ◌*◌, ◌/◌, ◌<◌, ◌≤◌, Bool, true, false};
 ghost use Rattle.std.specs.Prelude.{length, take, drop, IsTrue, IsFalse};
 ghost use Rattle.roman_lanes.specs.Rows.{is_on};
@@ -15,9 +15,9 @@ use roman_order::{Batch, Order};
 use roman_rules::Rules;
 use std::sync::ledger::Ledger;
 
-/// Marks the bands that lead to the pairs of the entries from `start` on, and keeps the words of the
-/// bands of these pairs. If `near` is the number of batches before `start`, the first batch is found at
-/// once.
+/// Marks the bands that lead to the pairs of the entries from `start` on, and stores the words of
+/// these pairs' bands as kept words. If `near` is the number of batches before `start`, the first
+/// batch is found at once.
 pub(crate) fn mark_losses<J: Rules, L: Ledger>(
     joint: &J,
     order: &mut Order,
@@ -38,7 +38,7 @@ pub(crate) fn mark_losses<J: Rules, L: Ledger>(
     ensures steps { steps.new ≡ steps.old + moves_to_all (J.arena joint.now) (J.lanes joint.now) (J.band joint.now)
         (J.mid joint.now) order.old.rows (drop start order.new.list) }
 {
-    joint.known(); // a row has 1 to 64 lanes, pairs are told apart by their numbers
+    joint.known(); // a row has 1 to 64 lanes, no two pairs have the same number
     order.known(); // listed pairs are pairs of the system
     let end = order.len();
     let mut guess = near;
@@ -53,9 +53,9 @@ pub(crate) fn mark_losses<J: Rules, L: Ledger>(
     order.known(); // each row has a kept word
 }
 
-/// Passes over entries from place `i` of the list on whose bands are noted, and returns the place after
-/// them, with a guess of its batch. `near` is a guess of the batch of place `i`. A band of one row has
-/// few batches in a round, so none is passed over there.
+/// Passes over the entries from place `i` of the list on whose bands are noted. Returns the place
+/// after them, and a guess of its batch. `near` is a guess of the batch of place `i`. If a band has
+/// one row, passes over no entry, because such a band has few batches in a round.
 fn next_loss<J: Rules>(joint: &J, order: &Order, i: u32, near: usize) -> (u32, usize)
     requires { i ≤ length order.now.list }
     ensures { AreUnkept order.now i result.0 }
@@ -66,8 +66,8 @@ fn next_loss<J: Rules>(joint: &J, order: &Order, i: u32, near: usize) -> (u32, u
     order.past_unkept(i, near)
 }
 
-/// Marks the bands that lead to the band of a batch, and keeps the words of the batch's band. Does
-/// nothing if the kept word of the batch's row has none of the batch's lanes.
+/// Marks the bands that lead to the band of a batch, and stores the words of the batch's band as
+/// kept words. Does nothing if the kept word of the batch's row has none of the batch's lanes.
 fn mark_batch<J: Rules, L: Ledger>(joint: &J, order: &mut Order, batch: Batch, steps: &mut Steps<L>)
     requires shaped { IsShaped (J.arena joint.now) (J.lanes joint.now) order.old }
     requires row { batch.row < order.old.rows }

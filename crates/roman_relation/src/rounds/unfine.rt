@@ -1,4 +1,4 @@
-//! Listing the pairs that don't meet clause 2.
+//! Lists the pairs that don't meet clause 2.
 ghost use Rattle.std.specs.Prelude.{◌≡◌, ℕ, ◌+◌, ◌*◌, ◌<◌, ◌≤◌, ◌⊎◌};
 ghost use Rattle.std.specs.Prelude.{length, IsTrue, IsFalse};
 ghost use Rattle.roman_model.specs.Arena.{is_listed, IsOrder};
@@ -48,7 +48,7 @@ fn list_unfine_band<J: Rules>(joint: &J, order: &mut Order, y: u32, resting: u64
         (p : ℕ) → IsTrue (is_listed A order.new.list p) →
         IsTrue (is_listed A order.old.list p) ⊎ IsFalse (A.fine p) }
 {
-    joint.known(); // a row has 1 to 64 lanes, pairs are told apart by their numbers, which fit 32 bits
+    joint.known(); // a row has 1 to 64 lanes, each pair has its own number, of 32 bits
     let x = band_start(joint, order, y);
     if are_listed(joint, order, x) {
         return;

@@ -20,9 +20,9 @@ use roman_order::{Batch, Order};
 use roman_radix::Shape;
 use roman_rules::Rules;
 
-/// Returns the number of neighbouring pairs in each part into which rows fall when the service `k`
-/// dies, from 1 to 64. Within a part the service has one state, and the renamed pairs of the part
-/// lie in one row.
+/// Returns the width of the parts into which rows are split when the service `k` dies: the number
+/// of neighbouring pairs of a part, from 1 to 64. Within a part the service has one state, and the
+/// renamed pairs of the part lie in one row.
 fn part_width(shape: &Shape, k: u8) -> u32
     requires { k < length shape.now.seats }
     ensures part { IsPart shape.now.seats k result }
@@ -44,7 +44,7 @@ pub(crate) struct Leaver {
     pub(crate) lanes: u32,
 }
 
-/// Returns whether the service `k` may leave its state in the pair `p` behind: whether it doesn't rest
+/// Returns whether the service `k` may leave its state in the pair `p` behind: whether it is loose,
 /// or the state is final.
 fn may_go(joint: &Joint, k: u8, p: u32) -> bool
     requires seat { k < length joint.now.seats }
@@ -57,9 +57,9 @@ fn may_go(joint: &Joint, k: u8, p: u32) -> bool
     !rests || joint.behaviour(k).is_final(joint.shape().part_of(p, k))
 }
 
-/// Renames the entries for pairs of one part, and appends them to the list: one for each renamed pair
-/// of which there is no entry yet. Appends nothing where the service may not leave its state behind.
-/// The bits of `word` give the pairs, counted from `first`.
+/// Renames the entries for pairs of one part, and appends them to the list: one for each renamed
+/// pair that has no entry yet. Appends nothing if the service may not leave its state behind. The
+/// bits of `word` give the pairs, counted from `first`.
 #[tactic(auto, using(crate::proofs::DeathEntries::left_row))]
 fn rename_part(
     joint: &Joint,
@@ -86,8 +86,8 @@ fn rename_part(
     order.push_on(x, lost, reason);
 }
 
-/// Renames the entries of the batch, part by part, and appends to the list, for each renamed pair of
-/// which there is no entry yet, the first entry in which the service may leave its state behind.
+/// Renames the entries of the batch, part by part. For each renamed pair that has no entry yet,
+/// appends the first entry in which the service may leave its state behind.
 fn rename_row(joint: &Joint, order: &mut Order, leaver: Leaver, batch: Batch)
     requires ready { CanRename joint.now leaver order.old }
     requires within { IsWithin (system_of joint.now) batch }
@@ -96,7 +96,7 @@ fn rename_row(joint: &Joint, order: &mut Order, leaver: Leaver, batch: Batch)
     ensures rest { order.new ≡ record order.old { list = order.new.list } }
 {
     let shape = joint.shape();
-    shape.known(); // no size is 0, a pair's number fits 32 bits
+    shape.known(); // no size is 0, a pair's number fits in 32 bits
     let width = part_width(shape, leaver.k);
     let first = batch.row * joint.lanes();
     let mut left = batch.lanes;

@@ -5,7 +5,7 @@ use Rattle.roman_joint.proofs.GoodLemmas.{known, rows_there, taken_before}
 use Rattle.roman_joint.proofs.attempt.rows_before.Goals as goal
 use Rattle.roman_joint.proofs.attempt.rows_before.Goals.{After-from}
 
--- what the seat's state adds to the number of the attempt's first row, which has 32 bits
+-- the share of the seat's state in the number of the attempt's first row, which has 32 bits
 taken : (c : After-from) → (c.from.result * slice_index c.layout-rows.result.now.strides c.args.k ≤ c.args.attempt.now.to.base) × (c.args.attempt.now.to.base < 2 ^ 32)
 taken c =
     let s = system_of c.args.joint.now in

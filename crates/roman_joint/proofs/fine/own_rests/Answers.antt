@@ -16,7 +16,7 @@ may_rest-requires-clause-state c =
     let laid = c.layout-rows.ensures.rows in
     rw c.row_state.ensures ((own_rows (system_of c.args.joint.now) _ c.loop-k.k laid (omega (arith, laid.mid, c.loop-k.auto.k)) (omega (arith, laid.low, c.loop-k-test.true))).below c.args.i)
 
--- what the loop tests is whether the seat may rest
+-- the loop tests whether the seat may rest
 tested : (c : After-may_rest) → rests c.args.joint.now c.args.i c.loop-k.k ≡ c.may_rest.result
 tested c =
     let s = system_of c.args.joint.now in

@@ -9,7 +9,7 @@ pub shifted-requires : goal.shifted-requires
 shifted-requires g c =
     (search rules, c.requires (get_or c.args.moves.now c.loop-step.step-index nowhere) (in_at c.args.moves.now c.loop-step.step-index nowhere (omega arith)))
 
--- tests that agree where it matters give the same result
+-- tests that agree whenever `on` is true give the same result
 where_on : (on a b : Bool) → (on ≡ true → a ≡ b) → not (on && not a) ≡ not (on && not b)
 where_on true a b h = ap (λ t. not (not t)) (h refl)
 where_on false a b h = refl

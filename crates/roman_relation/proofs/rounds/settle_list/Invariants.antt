@@ -15,6 +15,6 @@ invariant-rounds g l =
       cost : l.steps + fall A l.fn.order.list ≤ l.fn.steps + fall A l.order.list;
     }
 
--- each turn but the last lists a pair
+-- each iteration but the last lists a pair
 abbrev pub decreases-rounds : goal.decreases-rounds
 decreases-rounds g l = pairs_of l.order - length l.order.list

@@ -9,6 +9,6 @@ invariant-lane l = record {
   on : l.lane < l.lanes → is_on l.word l.lane ≡ true;
 }
 
--- each turn goes to a higher lane
+-- each iteration goes to a higher lane
 abbrev pub decreases-lane : goal.decreases-lane
 decreases-lane l = l.lanes - l.lane

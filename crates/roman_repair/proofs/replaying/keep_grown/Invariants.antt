@@ -1,10 +1,10 @@
 use Rattle.roman_repair.proofs.Common.{length, set_lanes, entries_grown, HasJudged}
 use Rattle.roman_repair.proofs.replaying.keep_grown.Given as goal
 
--- what the remaining lanes stand for is left
+-- the entries for which the remaining lanes stand are left
 abbrev pub invariant-left : goal.invariant-left
 invariant-left g l = HasJudged (g.J.Rules.arena l.joint) (g.J.Rules.lanes l.joint) (entries_grown l.fn.newcomer) l.batch l.left l.fn.order l.order l.fn.probe l.probe l.fn.steps l.steps
 
--- each turn takes at least one lane
+-- each iteration takes at least one lane
 abbrev pub decreases-left : goal.decreases-left
 decreases-left g l = length (set_lanes l.left)

@@ -8,6 +8,6 @@ invariant-replay g l = record {
   rest : l.order ≡ record l.fn.order { list = l.order.list; waiting = l.order.waiting };
 }
 
--- each turn takes a waiting entry
+-- each iteration takes a waiting entry
 abbrev pub decreases-replay : goal.decreases-replay
 decreases-replay g l = length l.order.waiting

@@ -13,7 +13,7 @@ reopen-requires-clause-pairs g c =
 reopened : (g : given.Over) (c : After-reopen g) → IsShaped (arena_of c.args.relation.now.joint) (lanes_in (system_of c.args.relation.now.joint)) c.reopen.new.self
 reopened g c = grind (arith, length-below)
 
--- their replay is that of what the old list grows to
+-- the replay of the waiting entries is that of the entries to which the old list grows
 replayed : (g : given.Over) (c : After-replay g) → c.replay.new.order.list ≡ replay_grown (system_of c.args.relation.now.joint) c.args.newcomer c.args.relation.now.order
 replayed g c = c.replay.ensures.list ∙ ap (λ (b : Board). with_replay (arena_of c.args.relation.now.joint) b.list (candidates c.args.newcomer.states b)) c.reopen.ensures.moved
 

@@ -8,7 +8,7 @@ use Rattle.roman_joint.proofs.joint.Joint.lane_moves.Goals.{After-from-5}
 abbrev place : After-from-5 → ℕ
 place c = (c.from.result * c.table-table.result.now.actions + c.from-2.result) * (c.from-3.result - c.from-4.result) + c.from-5.result
 
--- the span that is read there
+-- the span at this place of the table
 record Stands (c : After-from-5) : Type 0 where
   inside : place c < length c.table-table.result.now.spans.items
   span : (span : Span) → span ≡ slice_index_or c.table-table.result.now.spans.items (place c) span → IsSpan (system_of c.args.self.now) (span_place (system_of c.args.self.now) c.args.e c.args.a c.args.k) span c.table-table.result.now.moves.items

@@ -8,7 +8,7 @@ put_seats-requires c =
     let n = named_sys_in c.from.inside in
     omega (arith, ap length c.deref.ensures.value, length-map n.seats (seat_of n.catalogue), c.from.invariant.known.system.few, c.self.invariant.room)
 
--- with the services of the other joint it is that joint
+-- with the services of the other joint, this joint equals it
 same : (c : After-put_seats) → with_seats (named_sys_in c.self.inside) c.put_seats.new.places.items ≡ named_sys_in c.from.inside
 same c =
     with_the_seats (named_sys_in c.self.inside) (named_sys_in c.from.inside) c.put_seats.new.places.items (subst (λ (m : NamedSys). HasSameParts m (named_sys_in c.from.inside)) (sym c.self.view_is) (subst (HasSameParts c.args.self.now) (sym c.from.view_is) c.requires))

@@ -21,7 +21,7 @@ overflow_add-from c =
     let env : c.from.result * c.env_stride.result ≡ c.args.walk.now.env * env_stride_of (sizes_of (system_of c.args.self.now)) = ap₂ (λ m u. m * u) c.from.ensures (c.env_stride.ensures ∙ ap env_stride_of c.shape-shape.ensures) in
     omega (arith, there (goal.at.overflow_add-from c).After-first_outcome-first, env)
 
--- the same in the terms of the code
+-- the number of the pair that is taken, as the code computes it
 node : (c : After-stride) → c.first_outcome-first.result + c.args.walk.now.env * env_stride_of (sizes_of (system_of c.args.self.now)) + get_or c.prev_states-states.result.now c.args.walk.now.states_taken 0 * stride_of (sizes_of (system_of c.args.self.now)) c.args.walk.now.seat
     ≡ c.first_outcome-first.result + c.from.result * c.env_stride.result + c.from-2.result * c.stride.result
 node c = rw (c.from.ensures, c.from-2.ensures, c.env_stride.ensures, c.stride.ensures, c.shape-shape.ensures) refl

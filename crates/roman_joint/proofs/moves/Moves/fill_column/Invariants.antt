@@ -1,7 +1,7 @@
 use Rattle.roman_joint.proofs.Common.{HoldsSpans, SuitsEnv, system_in, shifts_room, within_in, drop, length, ◌*◌, ◌+◌, ◌-◌, ◌≡◌, ◌≤◌, low_in, low_of}
 use Rattle.roman_joint.proofs.moves.Moves.fill_column.Given as goal
 
--- the spans of the services so far are there
+-- the table has the spans of the services so far
 abbrev pub invariant-loop-k : goal.invariant-loop-k
 invariant-loop-k l =
     let s = system_in l.parts in

@@ -4,7 +4,7 @@ use Rattle.roman_order.proofs.Places.{position_from-bound}
 use Rattle.roman_order.proofs.Stamps.{place_in_batch, position_from-past, has_entry-batch}
 use Rattle.roman_order.proofs.order.places.place_in.Goals as goal
 
--- the place of the pair where its batch was found
+-- the place of the pair, once its batch is found
 place_at : (c : goal.After-lanes_before) → place_in_list (entries_of c.args.lanes c.args.batches.now) c.args.p ≡ Some (c.loop-j.place + c.lanes_before.result)
 place_at c =
     let e = c.batch_in-batch.result in

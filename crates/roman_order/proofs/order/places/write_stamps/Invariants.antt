@@ -1,7 +1,7 @@
 use Rattle.roman_order.proofs.Common.{◌≡◌, ◌+◌, length, drop, entries_of, IsBatch, nodes_of, with_stamps, AllByRecursion}
 use Rattle.roman_order.proofs.order.places.write_stamps.Given as goal
 
--- with the stamps of the batches from place j on, the table is as it shall be
+-- writing the stamps of the batches from place j on completes the table
 abbrev pub invariant-loop-j : goal.invariant-loop-j
 invariant-loop-j l = record {
   each : AllByRecursion (IsBatch l.lanes) (drop l.j l.batches);

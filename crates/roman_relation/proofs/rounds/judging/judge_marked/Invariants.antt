@@ -16,6 +16,6 @@ invariant-bands g l =
           (is_marked l.order (p / n / w) ≡ true) ⊎ IsJudged A gone l.order.list p;
     }
 
--- each turn clears a mark
+-- each iteration clears a mark
 abbrev pub decreases-bands : goal.decreases-bands
 decreases-bands g l = count_by (is_marked l.order) (below (64 * length l.order.marks))

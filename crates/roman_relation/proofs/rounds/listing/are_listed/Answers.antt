@@ -2,7 +2,7 @@ use Rattle.roman_relation.proofs.Common.{◌≡◌, ℕ, ◌+◌, ◌-◌, ◌<�
 use Rattle.roman_relation.proofs.Lanes.{all_listed}
 use Rattle.roman_relation.proofs.rounds.listing.are_listed.Goals as goal
 
--- where a part of the words is clear, its words are 0
+-- if a part of the words is clear, its words are 0
 none_in : (words : List ℕ) (x m i : ℕ) → x + m ≤ length words → i < m → ((j : ℕ) → j < length (take (x + m - x) (drop x words)) → slice_index (take (x + m - x) (drop x words)) j ≡ 0) → slice_index words (x + i) ≡ 0
 none_in words x m i inside h clear = grind (arith, get_or-take, get_or-drop, length-drop, length-take-le, (clear i))
 

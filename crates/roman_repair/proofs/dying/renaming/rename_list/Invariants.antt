@@ -9,6 +9,6 @@ invariant-waiting l = record {
   rest : l.order ≡ record l.initial.order { list = l.order.list; waiting = l.order.waiting };
 }
 
--- each turn takes a waiting batch
+-- each iteration takes a waiting batch
 abbrev pub decreases-waiting : goal.decreases-waiting
 decreases-waiting l = length l.order.waiting

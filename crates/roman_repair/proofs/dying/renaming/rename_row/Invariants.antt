@@ -10,6 +10,6 @@ invariant-left l = let s = system_of l.joint in record {
   some : l.left ≢ 0 → 0 < length (set_lanes l.left);
 }
 
--- each turn takes at least one lane
+-- each iteration takes at least one lane
 abbrev pub decreases-left : goal.decreases-left
 decreases-left l = length (set_lanes l.left)
