@@ -41,7 +41,7 @@ module _ (R Z : RattleType) (L : Laws Z) (g : Ghosts Z.Denot) where
         nothing t $ move t (2 ∷ 0 ∷ []) $ fjoin t $ feq_i t (List Val) (vptr b o ∷ []) (vptr b o ∷ []) refl $ fjoin t $ feq_i t (List Val) (v ∷ []) (v ∷ []) refl $ fjoin t $
         fpack t (Valss (RawPtr ∷ Z ∷ [])) (within (shape (loose.the_type R Z g)) (block_ptr b o, (a, tt)) (v ∷ [])) (vptr b o ∷ [], (h ∷ [], tt)) $ fjoin t $ s)
 
--- what C holds
+-- a struct of three words, as C programs hold it
 abbrev pub three : Val → Val → Val → Val
 three u v w = vstruct (vcons u (vcons v (vcons w vnil)))
 
@@ -72,7 +72,7 @@ module _ {M : Type 1} {𝓤 : Ura M} {𝓛 : Logic 𝓤} {K : Type 0} {Γ : List
       nothing t $ move t (2 ∷ 0 ∷ []) $ fjoin t $ feq_i t (List Val) (vbool f ∷ []) (vbool f ∷ []) refl $ fjoin t $ feq_i t (List Val) (ptr_val p ∷ []) (ptr_val p ∷ []) refl $ fjoin t $ feq_i t (List Val) (v ∷ []) (v ∷ []) refl $ fjoin t $
       fpack t (Valss (RawPtr ∷ bool ∷ Z ∷ [])) (within (shape held.the_type) (to held.the_type (record { at = p; full = f; alloc = a; value = y })) (v ∷ [])) (ptr_val p ∷ [], (vbool f ∷ [], (h ∷ [], tt))) $ fjoin t $ s)
 
-  -- something is held, or nothing
+  -- the cases of a handle: it holds nothing, or a box
   pub held_cases : K → (a : Global) (p : Ptr) (f : Bool) (y : Option R.Denot) → (f ≡ false → y ≡ None → Seq K 𝓛 Γ G)
       → ((b o : ℕ) (x : R.Denot) → p ≡ block_ptr b o → f ≡ true → y ≡ Some x → Seq K 𝓛 (‵ (box_owns (ghosts.dealloc_token a) R (block_ptr b o) x) ∷ Γ) G) → Seq K 𝓛 (‵ (held_owns a R p f y) ∷ Γ) G
   held_cases t a p false None none one = drop t $ none refl refl

@@ -1,4 +1,4 @@
--- What answering a line leaves in a handle.
+-- The effect of a line on a handle.
 use Rattle.std.specs.Prelude.{◌≡◌, ◌≢◌, ℕ, List, Option, None, Some}
 use Rattle.roman_session.specs.Situations.{Situation}
 use Rattle.roman_session.specs.Steps.{Step}
@@ -26,12 +26,12 @@ pub record StepsTo (old : Situation) (line : List ℕ) (new : Option Situation) 
   pub says : status ≢ 9 → reply ≡ text
   pub numbered : status ≢ 9 → status ≡ next_status (next_of line) text
 
--- an open session answers its line; without one all stays the same, with the status 2
+-- an open session answers its line; without a session everything stays the same, and the status is 2
 abbrev pub AnswersAs : (Situation → List ℕ) → Option Situation → Option Situation → List ℕ → ℕ → Type 0 → Type 0
 AnswersAs line None new reply status Same = Same × (status ≡ 2)
 AnswersAs line (Some s) new reply status Same = StepsTo s (line s) new reply status
 
--- the same of a talk
+-- a talk answers the line, if it has an open session
 abbrev pub TalkAnswers : Talk → (Situation → List ℕ) → Talk → ℕ → Type 0
 TalkAnswers old line new status = AnswersAs line old.session new.session new.reply.bytes.items status (new ≡ old)
 

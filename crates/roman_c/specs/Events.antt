@@ -1,4 +1,4 @@
--- Events by numbers, as lines: what has a number is named in the line.
+-- The lines of events that are given by numbers: they name the things that have the numbers.
 use Rattle.std.specs.Prelude.{ℕ, Bool, List, [], ◌∷◌, ◌++◌, map, codes, slice_index_or, if◌then◌else◌}
 use Rattle.roman_read.specs.Names.{is_name}
 use Rattle.roman_model.specs.Explanation.{seat_names}
@@ -25,7 +25,7 @@ numbered_names s (kind.BehaviourState i) = states_of_behaviour s.parts.catalogue
 abbrev pub numbered_name : Situation → Kind → ℕ → List ℕ
 numbered_name s kind i = slice_index_or (numbered_names s kind) i []
 
--- `+`, which is no name, in place of no bytes
+-- the word, or `+`, which isn't a valid name, if it is empty
 abbrev pub or_plus : List ℕ → List ℕ
 or_plus [] = codes "+"
 or_plus (byte ∷ bytes) = byte ∷ bytes
@@ -34,12 +34,12 @@ or_plus (byte ∷ bytes) = byte ∷ bytes
 abbrev pub named_by : Situation → Kind → ℕ → List ℕ
 named_by s kind i = codes " " ++ or_plus (numbered_name s kind i)
 
--- a space and the name of that state of the service to which a request is delegated
+-- a space and the name of that state of the delegate
 abbrev pub named_by_delegate : Situation → Phase → ℕ → List ℕ
 named_by_delegate s (Delegated a k) b = named_by s (kind.ServiceState k) b
 named_by_delegate s _ b = codes " +"
 
--- a name, or `+` in place of bytes that are no name
+-- a name, or `+` if the bytes aren't a valid name
 abbrev pub name_or_plus : List ℕ → List ℕ
 name_or_plus bytes = if is_name bytes then bytes else codes "+"
 

@@ -1,4 +1,4 @@
--- The numbers that a handle gives of its session.
+-- The numbers that a handle returns about its session.
 use Rattle.std.specs.Prelude.{◌≡◌, ◌==◌, ℕ, List, [], Option, None, Some, length, min, nat_lt, slice_index, unwrap_or, if◌then◌else◌}
 use Rattle.roman_model.specs.System.{has}
 use Rattle.roman_model.specs.Offers.{offers}
@@ -11,21 +11,21 @@ use Rattle.roman_c.specs.Events.{numbered_name, numbered_names}
 use Rattle.roman_c.specs.declared.names.Kind.{Kind}
 use Rattle.roman_c.specs.declared.names.Kind.TheVariants as kind
 
--- what stands for no number
+-- the value that stands for no number
 abbrev pub no_number : ℕ
 no_number = 4294967295
 
--- the bits of the services that are offered for the open request; none without such a request
+-- the bits of the services that are offered for the open request; no bits if there is no such request
 abbrev pub AreOffered : Situation → Phase → ℕ → Type 0
 AreOffered s (Offered a) bits = HasBits bits (has (offers (present_system s) s.here a))
 AreOffered s _ bits = bits ≡ 0
 
--- the same of an open session; none without one
+-- the bits of the services that are offered in an open session; no bits if no session is open
 abbrev pub HaveOffered : Option Situation → ℕ → Type 0
 HaveOffered None bits = bits ≡ 0
 HaveOffered (Some s) bits = AreOffered s s.phase bits
 
--- 0 without an open request, 1 if services are offered for it, 2 if it is delegated
+-- 0 if no request is open, 1 if services are offered for it, 2 if it is delegated
 abbrev pub phase_number : Phase → ℕ
 phase_number Idle = 0
 phase_number (Offered a) = 1
@@ -38,22 +38,22 @@ numbered_state s kind.TargetState = s.here.t
 numbered_state s (kind.ServiceState k) = if nat_lt k (length s.parts.seats) then slice_index s.here.bs k else no_number
 numbered_state s _ = no_number
 
--- a number of an open session, or none without one
+-- a number of an open session, or `no_number` if no session is open
 abbrev pub figure_of : (Situation → ℕ) → Option Situation → ℕ
 figure_of number None = no_number
 figure_of number (Some s) = number s
 
--- a name of an open session, or no bytes without one
+-- a name of an open session, or no bytes if no session is open
 abbrev pub session_name : Kind → ℕ → Option Situation → List ℕ
 session_name kind i None = []
 session_name kind i (Some s) = numbered_name s kind i
 
--- the number of the name of that kind, or none; a behaviour past the greatest number has none
+-- the number of the name of that kind, or `no_number`; a behaviour past the greatest number has none
 abbrev pub find_number : Kind → List ℕ → Situation → ℕ
 find_number kind.Behaviour name s = min (unwrap_or (place_of (numbered_names s kind.Behaviour) name) no_number) no_number
 find_number kind name s = unwrap_or (place_of (numbered_names s kind) name) no_number
 
--- the kind of that number; `of` is the service or the behaviour whose states are meant
+-- the kind with that number; `of` is the service or the behaviour that has the states
 abbrev pub kind_from : ℕ → ℕ → Option Kind
 kind_from number of =
     if number == 0 then Some kind.Action
@@ -65,7 +65,7 @@ kind_from number of =
     else if number == 6 then Some (kind.BehaviourState of)
     else None
 
--- what holds of a kind, or this without one
+-- the value for a kind, or the given value if there is no kind
 abbrev pub by_kind : {X : Type 0} → Option Kind → X → (Kind → X) → X
 by_kind None none some = none
 by_kind (Some kind) none some = some kind

@@ -1,4 +1,4 @@
--- What `roman_synth` and `roman_check` leave in a handle: what the program writes for the same texts, and its status.
+-- The effect of `roman_synth` and `roman_check` on a handle: the program's text for the same texts, and its status.
 use Rattle.std.specs.Prelude.{◌≡◌, ◌≢◌, ℕ, List, [], ◌∷◌, Option, None, Some}
 use Rattle.roman_io.specs.Shelf.{Texts}
 use Rattle.roman_model.specs.Lists.{IsIn}
@@ -17,20 +17,20 @@ abbrev pub job_of : Option (List ℕ) → Job
 job_of None = Synth
 job_of (Some certificate) = Check certificate
 
--- the number of a status: out of memory stands for a text that couldn't be written
+-- the number of a status; it is that of out of memory if a text couldn't be written
 abbrev pub job_number : Status → ℕ
 job_number status.WriteFault = 9
 job_number end = status_number end
 
--- a run of the job by the program ends with this number, and with the reply as its text; of a missing text and of no memory `Writes`
--- states nothing, and `EndsBare` states that the reply is empty
+-- a run of the job by the program ends with this number, and with the reply as its text; for a missing text and out of memory
+-- `Writes` states nothing, and `EndsBare` states that the reply is empty
 pub record HasDone (job : Job) (texts : Texts) (name reply : List ℕ) (number : ℕ) : Type 0 where
   pub end : Status
   pub numbered : number ≡ job_number end
   pub writes : Writes (OnOpening (JobDoes job texts []) (document_opening texts name)) (Some []) (Some reply) end
   pub bare : EndsBare (Some []) (Some reply) end
 
--- the same of handles before and after an export, unless a name isn't UTF-8
+-- a job is done on the handles before and after an export, unless a name isn't UTF-8
 abbrev pub HasDoneIn : Job → Option Content → List ℕ → Option Content → ℕ → Type 0
 HasDoneIn job shelf name session number = number ≢ 10 → HasDone job (texts_in shelf) name (reply_in session) number
 

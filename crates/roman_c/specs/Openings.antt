@@ -1,4 +1,4 @@
--- What opening a document leaves in a handle.
+-- The effect of opening a document on a handle.
 use Rattle.std.specs.Prelude.{◌≡◌, ℕ, List, [], ◌∷◌, Option, Some}
 use Rattle.roman_io.specs.Shelf.{Texts}
 use Rattle.roman_model.specs.Lists.{IsIn}
@@ -35,7 +35,7 @@ pub record TellsLimit (texts : Texts) (name reply : List ℕ) : Type 0 where
 abbrev pub IsOpeningStatus : ℕ → Type 0
 IsOpeningStatus n = IsIn n (0 ∷ 3 ∷ 4 ∷ 5 ∷ 9 ∷ 10 ∷ [])
 
--- the number of a status without a session: out of memory stands for a line that couldn't be written
+-- the number of a status without a session; it is that of out of memory if a line couldn't be written
 abbrev pub opening_number : Status → ℕ
 opening_number status.Refused = 3
 opening_number status.Limit = 4

@@ -1,10 +1,10 @@
--- The numbers by which C programs know refusals.
+-- The numbers of refusals for C programs.
 use Rattle.std.specs.Prelude.{ℕ, List, if◌then◌else◌}
 use Rattle.std.specs.Str.{bytes_eq}
 use Rattle.roman_text.specs.Replies.{reply_text}
 use Rattle.roman_text.specs.declared.replies.Reply.TheVariants as reply
 
--- 100 and the number of the refusal that the text is, or 0 if it is none
+-- 100 plus the number of the refusal with this text, or 0 if the text isn't a refusal
 abbrev pub refusal_status : List ℕ → ℕ
 refusal_status text =
     if bytes_eq text (reply_text reply.ErrorLine) then 101

@@ -1,4 +1,4 @@
-//! What a handle holds.
+//! The content of a handle.
 ghost use Rattle.std.specs.Prelude.{◌≡◌, ◌≢◌, ◌⊎◌, ◌∷◌, ◌<◌, [], None, Some, length, drop, option_copied};
 ghost use Rattle.roman_io.specs.Faults.{Rose};
 ghost use Rattle.roman_c.specs.Answers.{AnswersEvent, AnswersLine};
@@ -16,7 +16,7 @@ use roman_session::Session;
 use std::alloc::Global;
 use std::sync::ledger::{Blank, Ledger};
 
-/// What a handle holds: a shelf or a session.
+/// The content of a handle: a shelf or a session.
 #[derive(Drop)]
 pub enum Content {
     /// The texts of documents.
@@ -137,8 +137,8 @@ impl Content {
         }
     }
 
-    /// Copies the last reply from byte `from` on, until it or `into` ends. Returns the length of the whole
-    /// reply.
+    /// Copies the last reply from byte `from` on, until it or `into` ends. Returns the length of
+    /// the whole reply.
     pub(crate) fn copy_reply(&self, from: usize, into: &mut [u8]) -> usize
         ensures len { result ≡ length (reply_in (Some self.now)) }
         ensures copies { IsBeginning (drop from (reply_in (Some self.now))) into.new }

@@ -1,4 +1,4 @@
-//! Events by numbers, as lines.
+//! The lines of events that are given by numbers.
 ghost use Rattle.std.specs.Prelude.{◌≡◌, ◌≤◌, ◌+◌, ◌++◌, length};
 ghost use Rattle.roman_c.specs.Events.{event_line, join_line, name_or_plus, named_by, or_plus, named_by_delegate};
 
@@ -7,15 +7,14 @@ use roman_read::Name;
 use roman_session::{Phase, Session};
 use roman_text::Piece;
 
-/// An event by numbers.
+/// An event whose names are given by numbers.
 #[derive(Clone, Copy)]
 pub enum NumberedEvent<'a> {
     /// `do` with the action of that number.
     Request(u32),
     /// `use` with the service at that place.
     Delegate(u32),
-    /// `saw` with that state of the service to which the request is delegated, and that state of the
-    /// environment.
+    /// `saw` with that state of the delegate, and that of the environment.
     Observe(u32, u32),
     /// `freeze` with the service at that place.
     Freeze(u32),
@@ -40,7 +39,7 @@ pub enum NumberedEvent<'a> {
     },
 }
 
-/// Returns the line of an event. A number that nothing has gives the word `+`, which is no name.
+/// Returns the line of an event. A number out of range gives `+`, which isn't a valid name.
 pub(crate) fn event_line(session: &Session, event: NumberedEvent<'_>) -> Piece
     ensures { result ≡ event_line session.now event.entry }
 {
@@ -118,7 +117,7 @@ fn named_by(line: Piece, session: &Session, kind: Kind, number: u32) -> Piece
         .text(or_plus(name_of(session, kind, number)))
 }
 
-/// Appends a space and the name of that state of the service to which a request is delegated.
+/// Appends a space and the name of that state of the delegate.
 fn named_by_delegate(line: Piece, session: &Session, state: u32) -> Piece
     requires { length line ≤ 95 }
     ensures text { result ≡ line ++ named_by_delegate session.now session.now.phase state }
@@ -132,7 +131,7 @@ fn named_by_delegate(line: Piece, session: &Session, state: u32) -> Piece
     }
 }
 
-/// Returns a word, or `+` in place of no bytes.
+/// Returns a word, or `+` if it is empty.
 fn or_plus(word: &[u8]) -> &[u8]
     requires { length word.now ≤ 32 }
     ensures word { result.now ≡ or_plus word.now }
@@ -141,7 +140,7 @@ fn or_plus(word: &[u8]) -> &[u8]
     if word.is_empty() { b"+" } else { word }
 }
 
-/// Returns a name, or `+` in place of bytes that are no name.
+/// Returns a name, or `+` if the bytes aren't a valid name.
 fn name_or_plus(bytes: &[u8]) -> &[u8]
     ensures name { result.now ≡ name_or_plus bytes.now }
     ensures short { length result.now ≤ 32 }

@@ -9,7 +9,7 @@ use crate::loose::Loose;
 use std::alloc::{AllocError, Global};
 use std::marker::Model;
 
-/// A box, or nothing. What a C program holds of a shelf and of a session, by value.
+/// A box, or nothing. A C program holds a shelf or a session by value as one of these.
 #[repr(C)]
 #[derive(Drop)]
 pub struct Held {
@@ -59,7 +59,7 @@ impl Held {
         }
     }
 
-    /// Returns what is held. Nothing is held after the call.
+    /// Returns the held box, if there is one. Nothing is held after the call.
     pub(crate) fn take(&mut self, alloc: Global) -> Option<Box<Content>>
         ensures left { self.new.value ≡ None }
         ensures taken { self.old.value ≡ option_map (λ b. b.value) result }
@@ -70,14 +70,15 @@ impl Held {
         }
     }
 
-    /// Holds a box in place of what was held.
+    /// Holds a box in place of the old content.
     pub(crate) fn put(&mut self, value: Box<Content>)
         ensures { self.new.value ≡ Some value.value }
     {
         *self = Held::of_loose(Loose::of(value));
     }
 
-    /// Holds a new box in place of what was held. Fails only when out of memory, and then holds nothing.
+    /// Holds a new box in place of the old content. Fails only when out of memory, and is then
+    /// empty.
     pub(crate) fn hold(&mut self, alloc: Global, content: Content) -> Result<(), AllocError>
         ensures ok { OnOk result (self.new.value ≡ Some content) }
         ensures err { OnErr result (self.new.value ≡ None) }

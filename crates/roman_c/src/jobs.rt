@@ -15,8 +15,8 @@ use roman_top::{check_certificate, synth_report};
 use std::alloc::Global;
 use std::sync::ledger::{Blank, Ledger};
 
-/// Reports on a document, or checks the certificate of that name for it. The reply is the text that the
-/// program writes, and the talk has no session.
+/// Reports on a document, or checks the certificate of that name for it. The reply is the text that
+/// the program writes, and the talk has no session.
 pub(crate) fn work<L: Ledger>(
     alloc: Global,
     shelf: &mut TextShelf,
@@ -64,7 +64,7 @@ fn run<F: Shelf, O: Sink, L: Ledger>(
     }
 }
 
-/// Returns the number of a status. A text that couldn't be written counts as out of memory.
+/// Returns the number of a status. For a text that couldn't be written it is that of out of memory.
 fn job_number(status: Status) -> u32
     ensures { result ≡ job_number status }
 {

@@ -1,9 +1,10 @@
 //! Sessions for C programs, as a static library. `roman.h` declares the exports.
 //!
-//! A C program holds a shelf and a session by value, as handles that begin empty. Each export takes a
-//! handle by `&mut`, so its clauses are facts on what the handle holds before and after the call. The
-//! clauses need nothing of the caller beyond valid pointers. `specs/Contents` defines what a handle
-//! holds, `specs/Openings` what opening a document leaves in it, and `specs/Answers` what a line does.
+//! A C program holds a shelf and a session by value, as handles that begin empty. Each export takes
+//! a handle by `&mut`, so its clauses are facts about the content of the handle before and after
+//! the call. The clauses require only valid pointers of the caller. `specs/Contents` defines the
+//! content of a handle, `specs/Openings` what opening a document leaves in it, and `specs/Answers`
+//! the effect of a line.
 #![tactic(auto)]
 
 ghost use Rattle.std.specs.Prelude.{◌≡◌, ◌≢◌, ◌<◌, ◌⊎◌, ◌∷◌, List, ℕ, [], None, length, drop, take, min, option_copied};
@@ -40,11 +41,11 @@ mod talk;
 
 pub use held::Held;
 
-/// Adds a text to a shelf, and begins the shelf if the handle is empty. Of two texts with one name the
-/// newer one counts.
+/// Adds a text to a shelf, and begins the shelf if the handle is empty. A newer text replaces an
+/// older one with the same name.
 ///
-/// 0: the text is there; 2: the handle holds a session; 9: out of memory; 10: the name isn't UTF-8. If it
-/// isn't 0, the texts are as they were.
+/// 0: the shelf has the text; 2: the handle holds a session; 9: out of memory; 10: the name isn't
+/// UTF-8. If it isn't 0, the texts are unchanged.
 #[unsafe(no_mangle)]
 pub extern "C" fn roman_add(alloc: Global, shelf: &mut Held, name: &[u8], text: &[u8]) -> u32
     ensures ok { result ≡ 0 → texts_in shelf.new.value ≡ (name.now, text.now) ∷ texts_in shelf.old.value }
@@ -66,12 +67,12 @@ pub extern "C" fn roman_add(alloc: Global, shelf: &mut Held, name: &[u8], text: 
     status
 }
 
-/// Begins a session of the system document of that name on the shelf, and closes the session that was
+/// Begins a session of the document of that name on the shelf, and closes any session that was
 /// open.
 ///
-/// 0: the session is open; 3: the document is refused; 4: its system exceeds its limit; 5: the shelf lacks
-/// a text that is named; 9: out of memory; 10: the name isn't UTF-8. At 3 and 4 the reply is the line that
-/// says why.
+/// 0: the session is open; 3: the document is refused; 4: its system exceeds its limit; 5: the
+/// shelf lacks a text that is named; 9: out of memory; 10: the name isn't UTF-8. At 3 and 4 the
+/// reply is the line that gives the reason.
 #[unsafe(no_mangle)]
 pub extern "C" fn roman_open(
     alloc: Global,
@@ -126,11 +127,11 @@ fn opened<L: Ledger>(
     }
 }
 
-/// Reports on the system document of that name on the shelf, as `roman synth` does, and closes the session that
-/// was open. The reply is the report.
+/// Reports on the system document of that name on the shelf, as `roman synth` does, and closes any
+/// session that was open. The reply is the report.
 ///
-/// 0: the start pair is related; 1: it isn't; 3, 4, 5, 9 and 10 as of [`roman_open`], with its replies. At 9 the
-/// reply is a prefix of the text.
+/// 0: the start pair is related; 1: it isn't; 3, 4, 5, 9 and 10 as for [`roman_open`], with its
+/// replies. At 9 the reply is a prefix of the text.
 #[unsafe(no_mangle)]
 pub extern "C" fn roman_synth(
     alloc: Global,
@@ -147,11 +148,11 @@ pub extern "C" fn roman_synth(
     worked::<Brand>(alloc, session, shelf, name, None, Blank::new(1))
 }
 
-/// Checks the certificate of that name on the shelf for the system document of that name, as `roman check` does,
-/// and closes the session that was open. The reply is the verdict.
+/// Checks the certificate of that name on the shelf for the system document of that name, as `roman
+/// check` does, and closes any session that was open. The reply is the verdict.
 ///
-/// 0: the certificate is right and complete; 1: it is rejected; 8: it is too long; 3, 4, 5, 9 and 10 as of
-/// [`roman_synth`].
+/// 0: the certificate is right and complete; 1: it is rejected; 8: it is too long; 3, 4, 5, 9 and
+/// 10 as for [`roman_synth`].
 #[unsafe(no_mangle)]
 pub extern "C" fn roman_check(
     alloc: Global,
@@ -216,9 +217,9 @@ fn worked<L: Ledger>(
 
 /// Answers a line, and holds the reply in place of the last one.
 ///
-/// 0: the event is accepted, or the line is blank or a comment; 1: the line is `quit`; 2: no session is
-/// open; 9: there was no memory for the whole reply; from 101 on: the reply is a refusal, and the session
-/// is as it was.
+/// 0: the event is accepted, or the line is blank or a comment; 1: the line is `quit`; 2: no
+/// session is open; 9: there was no memory for the whole reply; from 101 on: the reply is a
+/// refusal, and the session is unchanged.
 #[unsafe(no_mangle)]
 pub extern "C" fn roman_answer(alloc: Global, session: &mut Held, line: &[u8]) -> u32
     ensures { AnswersLine session.old.value line.now session.new.value result }
@@ -247,8 +248,8 @@ fn answer_event(alloc: Global, session: &mut Held, event: NumberedEvent<'_>) -> 
     }
 }
 
-/// Requests the action of that number, as `do` does by its name. The status is that of [`roman_answer`], and
-/// so is the reply. A number that nothing has counts as an unknown name.
+/// Requests the action of that number, as `do` does by its name. The status is that of
+/// [`roman_answer`], and so is the reply. A number out of range counts as an unknown name.
 #[unsafe(no_mangle)]
 pub extern "C" fn roman_request(alloc: Global, session: &mut Held, action: u32) -> u32
     ensures { AnswersEvent session.old.value (NumberedEvent.Request action) session.new.value result }
@@ -264,8 +265,7 @@ pub extern "C" fn roman_delegate(alloc: Global, session: &mut Held, service: u32
     answer_event(alloc, session, NumberedEvent::Delegate(service))
 }
 
-/// Reports the state of the service to which the request is delegated, and that of the environment, as `saw`
-/// does by their names.
+/// Reports the observed states of the delegate and the environment, as `saw` does by their names.
 #[unsafe(no_mangle)]
 pub extern "C" fn roman_observe(alloc: Global, session: &mut Held, state: u32, env: u32) -> u32
     ensures { AnswersEvent session.old.value (NumberedEvent.Observe state env) session.new.value result }
@@ -289,7 +289,7 @@ pub extern "C" fn roman_thaw(alloc: Global, session: &mut Held, service: u32) ->
     answer_event(alloc, session, NumberedEvent::Thaw(service))
 }
 
-/// Removes the service at that place, as `die` does by its name. Each later service moves down by one place.
+/// Removes the service at that place, as `die` does by its name. Later services move down by one.
 #[unsafe(no_mangle)]
 pub extern "C" fn roman_die(alloc: Global, session: &mut Held, service: u32) -> u32
     ensures { AnswersEvent session.old.value (NumberedEvent.Die service) session.new.value result }
@@ -313,8 +313,8 @@ pub extern "C" fn roman_jump_env(alloc: Global, session: &mut Held, env: u32) ->
     answer_event(alloc, session, NumberedEvent::JumpEnv(env))
 }
 
-/// Adds a service with that name, behaviour and state in the last place, as `join` does. With `loose` its
-/// states need no rest.
+/// Adds a service with that name, behaviour and state in the last place, as `join` does. If `loose`
+/// is true, it never needs to be in a final state.
 #[unsafe(no_mangle)]
 pub extern "C" fn roman_join(
     alloc: Global,
@@ -335,8 +335,8 @@ pub extern "C" fn roman_join(
     answer_event(alloc, session, event)
 }
 
-/// Returns the services that are offered for the open request: bit `k` is 1 exactly if the service at place
-/// `k` is. It is 0 if none is open, or if it is delegated.
+/// Returns the services that are offered for the open request: bit `k` is 1 exactly if the service
+/// at place `k` is. Returns 0 if no request is open, or if it is delegated.
 #[unsafe(no_mangle)]
 pub extern "C" fn roman_offers(alloc: Global, session: &mut Held) -> u32
     ensures same { session.new.value ≡ session.old.value }
@@ -384,8 +384,8 @@ pub extern "C" fn roman_find(
     }
 }
 
-/// Copies the name of that kind and number, or as much of it as there is room for. Returns the length of the
-/// name, from 1 to 32, or 0 if there is none.
+/// Copies the name of that kind and number, or as much of it as there is room for. Returns the
+/// length of the name, from 1 to 32, or 0 if there is none.
 #[unsafe(no_mangle)]
 pub extern "C" fn roman_name(
     alloc: Global,
@@ -415,8 +415,8 @@ pub extern "C" fn roman_name(
     }
 }
 
-/// Returns the present state of that kind, or `NO_NUMBER`: of the environment, of the target or of the service
-/// at place `of`.
+/// Returns the present state of that kind, or `NO_NUMBER`: of the environment, of the target or of
+/// the service at place `of`.
 #[unsafe(no_mangle)]
 pub extern "C" fn roman_state(alloc: Global, session: &mut Held, kind: u32, of: u32) -> u32
     ensures same { session.new.value ≡ session.old.value }
@@ -439,8 +439,8 @@ pub extern "C" fn roman_state(alloc: Global, session: &mut Held, kind: u32, of: 
     }
 }
 
-/// Returns 0 if no request is open, 1 if services are offered for it, 2 if it is delegated, and `NO_NUMBER` if
-/// no session is open.
+/// Returns 0 if no request is open, 1 if services are offered for it, 2 if it is delegated, and
+/// `NO_NUMBER` if no session is open.
 #[unsafe(no_mangle)]
 pub extern "C" fn roman_phase(alloc: Global, session: &mut Held) -> u32
     ensures same { session.new.value ≡ session.old.value }
@@ -459,8 +459,8 @@ pub extern "C" fn roman_phase(alloc: Global, session: &mut Held) -> u32
     }
 }
 
-/// Copies the last reply from byte `from` on, or as much of it as there is room for. Returns the length of
-/// the whole reply.
+/// Copies the last reply from byte `from` on, or as much of it as there is room for. Returns the
+/// length of the whole reply.
 #[unsafe(no_mangle)]
 pub extern "C" fn roman_reply(
     alloc: Global,
@@ -490,7 +490,8 @@ pub extern "C" fn roman_close(alloc: Global, session: &mut Held)
     drop(session.take(alloc));
 }
 
-/// Returns the memory of a shelf. The handle is empty after the call. Sessions that began of it stay open.
+/// Returns the memory of a shelf. The handle is empty after the call. Sessions that began from the
+/// shelf stay open.
 #[unsafe(no_mangle)]
 pub extern "C" fn roman_clear(alloc: Global, shelf: &mut Held)
     ensures { shelf.new.value ≡ None }

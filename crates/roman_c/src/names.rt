@@ -11,10 +11,10 @@ use roman_library::place_of_behaviour;
 use roman_parts::NameTable;
 use roman_session::Session;
 
-/// What stands for no number.
+/// The value that stands for no number.
 pub const NO_NUMBER: u32 = u32::MAX;
 
-/// What a number is of.
+/// The kind of thing that has a number.
 #[derive(Clone, Copy)]
 pub enum Kind {
     /// An action.
@@ -33,7 +33,7 @@ pub enum Kind {
     BehaviourState(u32),
 }
 
-/// Returns the kind of that number, with the service or the behaviour whose states are meant.
+/// Returns the kind with that number. `of` is the service or the behaviour that has the states.
 pub(crate) fn kind_from(number: u32, of: u32) -> Option<Kind>
     ensures { result ≡ kind_from number of }
 {
@@ -125,7 +125,6 @@ fn table_name(names: &NameTable, number: u32) -> &[u8]
     }
 }
 
-/// Returns the name of the service at that place, or no bytes.
 fn service_name(joint: &Joint, service: u32) -> &[u8]
     ensures name { result.now ≡ slice_index_or (map seat_name joint.now.seats) service [] }
     ensures short { length result.now ≤ 32 }
@@ -211,7 +210,8 @@ fn find_behaviour(joint: &Joint, name: &[u8]) -> u32
     }
 }
 
-/// Returns the number of that state of the behaviour at that place of the catalogue, or `NO_NUMBER`.
+/// Returns the number of that state of the behaviour at that place of the catalogue, or
+/// `NO_NUMBER`.
 fn find_behaviour_state(joint: &Joint, behaviour: u32, name: &[u8]) -> u32
     ensures { result ≡ unwrap_or (place_of (states_of_behaviour joint.now.catalogue behaviour) name.now) no_number }
 {

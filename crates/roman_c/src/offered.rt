@@ -6,7 +6,7 @@ ghost use Rattle.roman_c.specs.Figures.{AreOffered, phase_number};
 use roman_rules::{SeatSet, with_bit};
 use roman_session::{Phase, Session};
 
-/// Returns the bits of the services that are offered for the open request, or 0 without one.
+/// Returns the bits of the offered services, or 0 if no request is open.
 pub(crate) fn offered_bits(session: &Session) -> u32
     ensures { AreOffered session.now session.now.phase result }
 {
@@ -16,7 +16,6 @@ pub(crate) fn offered_bits(session: &Session) -> u32
     }
 }
 
-/// Returns the bits of a set.
 fn bits_of(set: SeatSet) -> u32
     ensures { HasBits result (has_seat set) }
 {

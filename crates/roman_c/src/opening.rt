@@ -11,14 +11,14 @@ use roman_opening::{Status, open_session};
 use std::alloc::Global;
 use std::sync::ledger::{Blank, Ledger};
 
-/// How opening a document ended: the talk that a handle is to hold, and the status.
+/// The result of opening a document: the new talk of the handle, and the status.
 #[derive(Drop)]
 pub(crate) struct Begun {
     pub(crate) talk: Talk,
     pub(crate) status: u32,
 }
 
-/// Opens a document, and begins a session of it. The reply is the line that says why there is none.
+/// Opens a document, and begins a session of it. If that fails, the reply gives the reason.
 pub(crate) fn begin<L: Ledger>(
     alloc: Global,
     shelf: &mut TextShelf,
@@ -58,8 +58,8 @@ pub(crate) fn begin<L: Ledger>(
     }
 }
 
-/// Returns the number of a status without a session. A line that couldn't be written counts as out of
-/// memory.
+/// Returns the number of a status without a session. If a line couldn't be written, it is the
+/// number of out of memory.
 fn opening_status(status: Status) -> u32
     ensures { result ≡ opening_number status }
 {

@@ -1,9 +1,9 @@
-//! The numbers by which C programs know refusals.
+//! The numbers of refusals for C programs.
 ghost use Rattle.std.specs.Prelude.{◌≡◌, ◌≢◌};
 ghost use Rattle.std.specs.Str.{bytes_eq};
 ghost use Rattle.roman_c.specs.Refusals.{refusal_status};
 
-/// Returns 100 and the number of the refusal that the text is, or 0 if it is none.
+/// Returns 100 plus the number of the refusal with this text, or 0 if the text isn't a refusal.
 pub(crate) fn refusal_status(text: &[u8]) -> u32
     ensures status { result ≡ refusal_status text.now }
     ensures memory { result ≢ 9 }

@@ -8,12 +8,12 @@ ghost use Rattle.roman_c.specs.Copies.{CopiesAll};
 use roman_io::{Failed, Shelf};
 use std::alloc::{AllocError, Global};
 
-/// Names with their texts, the newest first. Of two texts with one name the newer one counts.
+/// Names with their texts, the newest first. The newest text with a name counts.
 #[derive(Drop)]
 pub struct TextShelf {
     /// The names with their texts.
     pub files: Vec<(String, Vec<u8>)>,
-    /// How often a text was asked for that isn't there.
+    /// The number of fetches of texts that the shelf lacks.
     pub missing: u64,
 }
 
@@ -28,7 +28,7 @@ impl TextShelf {
         }
     }
 
-    /// Adds a text. Fails only when out of memory, and then leaves the shelf as it was.
+    /// Adds a text. Fails only when out of memory, and then leaves the shelf unchanged.
     pub(crate) fn add(&mut self, alloc: Global, name: &str, text: &[u8]) -> Result<(), AllocError>
         ensures ok { OnOk result (texts_of self.new.files.items
             ≡ (name.now, text.now) ∷ texts_of self.old.files.items) }

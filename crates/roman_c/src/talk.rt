@@ -18,7 +18,7 @@ use std::sync::ledger::{Blank, Ledger};
 pub struct Reply {
     /// The bytes.
     pub bytes: Vec<u8>,
-    /// How often memory ran out.
+    /// The number of times that memory ran out.
     pub faults: u64,
 }
 
@@ -55,7 +55,7 @@ impl Sink for Reply {
 pub struct Talk {
     /// The session.
     pub session: Option<Session>,
-    /// The last reply, or the line that says why there is no session.
+    /// The last reply, or the line that gives the reason why there is no session.
     pub reply: Reply,
 }
 
@@ -82,8 +82,8 @@ impl Talk {
     }
 }
 
-/// Answers a line in place of the last reply. Returns 1 if the line is `quit`, 9 if there was no memory
-/// for the whole reply, and else the status of the reply.
+/// Answers a line in place of the last reply. Returns 1 if the line is `quit`, 9 if there was no
+/// memory for the whole reply, and otherwise the status of the reply.
 fn answer(session: &mut Session, reply: &mut Reply, line: &[u8]) -> u32
     ensures { StepsTo session.old line.now (Some session.new) reply.new.bytes.items result }
 {

@@ -1,4 +1,4 @@
--- Runs that end for want of memory for their words.
+-- Runs that end because there is no memory for their words.
 use Rattle.roman_opening.proofs.CallerLemmas.{told_all}
 use Rattle.std.proofs.Common.{ℕ, List, Option, inr, refl}
 use Rattle.roman_cli.specs.Running.{ServesArguments}

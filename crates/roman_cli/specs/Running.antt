@@ -1,4 +1,4 @@
--- What a run of the program does with the arguments that the system passes to it.
+-- The effect of a run of the program with the arguments that the system passes to it.
 use Rattle.std.specs.Prelude.{◌≡◌, ◌⊎◌, ℕ, List, [], ◌∷◌, Option}
 use Rattle.roman_top.specs.Command.{Command, command_of}
 use Rattle.roman_top.specs.Served.{Served}

@@ -1,4 +1,4 @@
-//! Explains on standard error how a run ended, where the output doesn't.
+//! Explains on standard error how a run ended, if the output doesn't.
 
 use crate::folder::{FolderShelf, Unread};
 use crate::output::StdSink;
@@ -41,7 +41,7 @@ pub fn complain(rt: &HostRuntime, status: Status) -> io::Result<()> {
     }
 }
 
-/// Names the file that couldn't be read, and says why.
+/// Names the file that couldn't be read, and the cause.
 fn complain_of_file(rt: &HostRuntime, unread: Option<&Unread>) -> io::Result<()> {
     let Some(unread) = unread else {
         return complain(rt, Status::ShelfFault);
@@ -54,7 +54,7 @@ fn complain_of_file(rt: &HostRuntime, unread: Option<&Unread>) -> io::Result<()>
     }
 }
 
-/// Writes what to do with a document in the short form, which the program refuses.
+/// Explains how to expand a document in the short form, which the program refuses.
 fn complain_of_form(
     rt: &HostRuntime,
     words: &Words,
@@ -72,7 +72,7 @@ fn complain_of_form(
     )
 }
 
-/// Returns whether the document can be read and says that it is in the short form.
+/// Returns whether the document can be read and states that it is in the short form.
 fn is_short(alloc: Global, name: &str, shelf: &mut FolderShelf<'_, HostRuntime>) -> bool {
     let Ok(document) = document(alloc, shelf, name) else {
         return false;

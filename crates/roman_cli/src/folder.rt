@@ -16,8 +16,8 @@ pub struct Unread {
     pub kind: ErrorKind,
 }
 
-/// Files by their names. Relative names start at the working folder. The shelf's model doesn't say
-/// what a file holds. A fetch fails at the first error of the system.
+/// Files by their names. Relative names start at the working folder. The shelf's model doesn't
+/// expose the contents of files. A fetch fails at the first error of the system.
 #[derive(Drop)]
 pub struct FolderShelf<'a, R: Files> {
     rt: &'a R,

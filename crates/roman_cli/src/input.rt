@@ -4,8 +4,8 @@ ghost use Rattle.std.specs.Prelude.{None};
 use roman_io::{Failed, Source};
 use std::io::{Read, Stdin};
 
-/// Standard input. Its model doesn't say what comes in. A take fails at the first error of the
-/// system.
+/// Standard input. Its model doesn't expose the bytes that arrive. A take fails at the first error
+/// of the system.
 #[derive(Drop)]
 pub struct StdSource {
     input: Stdin,

@@ -39,8 +39,8 @@ fn main(rt: HostRuntime) -> ExitCode {
     ExitCode::from(ended.number)
 }
 
-/// Ends a run whose arguments the system can't give: there is no memory for them, or one of them isn't
-/// valid text. Returns the status.
+/// Ends a run whose arguments the system can't give: there is no memory for them, or one of them
+/// isn't valid text. Returns the status.
 fn end_without_words(rt: &HostRuntime, error: &io::Error) -> Status {
     let status = match error.kind() {
         ErrorKind::OutOfMemory => Status::Memory,

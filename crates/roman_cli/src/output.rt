@@ -4,8 +4,8 @@ ghost use Rattle.std.specs.Prelude.{None};
 use roman_io::{Failed, Sink};
 use std::io::{self, ErrorKind, Stdout, Write};
 
-/// Standard output. Its model doesn't say what was written. A put fails at the first error of the
-/// system, or when the system takes nothing of a piece that isn't empty.
+/// Standard output. Its model doesn't expose the bytes that were written. A put fails at the first
+/// error of the system, or when the system takes nothing of a piece that isn't empty.
 #[derive(Drop)]
 pub struct StdSink {
     out: Stdout,
@@ -23,8 +23,8 @@ impl StdSink {
         }
     }
 
-    /// Returns whether the last failed put failed because the reader of the output went away, such
-    /// as the other end of a pipe.
+    /// Returns whether the last failed put failed because the reader of the output went away, for
+    /// example at the other end of a pipe.
     pub fn is_closed(&self) -> bool {
         self.is_closed
     }

@@ -26,7 +26,6 @@ pub struct Ended {
 }
 
 impl Ended {
-    /// Returns the ending of a run of these words with this status.
     fn new(words: Words, status: Status) -> Ended
         ensures status { result.status ≡ status }
         ensures number { result.number ≡ status_number status }
@@ -40,8 +39,8 @@ impl Ended {
     }
 }
 
-/// Runs the command that the arguments form, with a counter of steps on `blank`. The first argument is
-/// the program's name. If there is no memory for the words, nothing is done, and the status is
+/// Runs the command that the arguments form, with a counter of steps on `blank`. The first argument
+/// is the program's name. If there is no memory for the words, nothing is done, and the status is
 /// `Memory`.
 #[tactic(auto, using(crate::proofs::RunningLemmas::answers_out, crate::proofs::RunningLemmas::headline_out, crate::proofs::RunningLemmas::stopped))]
 pub fn run<F: Shelf, I: Source, O: Sink, L: Ledger>(
@@ -58,7 +57,7 @@ pub fn run<F: Shelf, I: Source, O: Sink, L: Ledger>(
     // The program ends with the number of the status.
     ensures number { result.number ≡ status_number result.status }
 
-    // What `serve` promises of the words after the program's name, of which none is left out.
+    // The promise of `serve` for all words after the program's name.
     ensures served { ServesArguments (map string_bytes (into_iter_items args))
         (world_of F.Shelf I.Source O.Sink shelf.old input.old out.old)
         (world_of F.Shelf I.Source O.Sink shelf.new input.new out.new) result.status }

@@ -14,14 +14,14 @@ pub best_of-first : (f : ℕ → ℕ) (xs : List ℕ) → xs ≢ [] → best_of 
 best_of-first f [] some = absurd (some refl)
 best_of-first f (x ∷ xs) some = refl
 
--- the numbers that pass, after one number more below the bound, which passes or doesn't
+-- one more number below the bound passes, or doesn't pass
 pub filter_taken : (p : ℕ → Bool) (k : ℕ) → p k ≡ true → filter p (below (k + 1)) ≡ filter p (below k) ++ k ∷ []
 filter_taken p k passes = rw (add-one, filter_below_more p k, passes)
 
 pub filter_passed : (p : ℕ → Bool) (k : ℕ) → p k ≡ false → filter p (below (k + 1)) ≡ filter p (below k)
 filter_passed p k fails = rw (add-one, filter_below_more p k, fails, append-nil)
 
--- the best after one number more, which passes or doesn't
+-- the best after one more number below the bound, which passes or doesn't pass
 pub best_of-taken : (f : ℕ → ℕ) (p : ℕ → Bool) (k cost : ℕ) (best new : Option (ℕ × ℕ)) → p k ≡ true → best ≡ best_of f (filter p (below k)) → cost ≡ f k →
     new ≡ better_of best k cost → new ≡ best_of f (filter p (below (k + 1)))
 best_of-taken f p k cost best new passes before e is = grind (arith, best_of-push, filter_taken)

@@ -1,7 +1,7 @@
--- Listed costs, and their cells, and how many items a text lists.
+-- Listed costs and their cells, and the number of items of a text.
 use Rattle.roman_cost.proofs.Common.{◌≡◌, ◌≢◌, ℕ, zero, suc, ◌+◌, ◌-◌, ◌*◌, ◌<◌, ◌≤◌, List, [], ◌∷◌, ◌++◌, length, get_or, Option, Some, None, All, refl, sym, ap, ◌∙◌, ap₂, arith, ◌==◌, ◌&&◌, set, both_ways, cond-false, cond-true, eq-eqb, eqb-true, and_parts, and_from, All-push, mul-add-lt, by_test, NamedSys, CostTable, listed_cost, seat_costs, HoldsCosts, cost_of, Listed, MAX_COST, items_len-items_view, option_or, get_or-set_same, get_or-set_other, length-set, same_from_place}
 
--- One item more.
+-- One more item.
 
 pub listed_cost-push : (listed : List Listed) (item : Listed) (b a : ℕ) →
     listed_cost (listed ++ item ∷ []) b a ≡ option_or (listed_cost listed b a) (listed_cost (item ∷ []) b a)
@@ -55,5 +55,5 @@ cost_of_small (x ∷ listed) each b a = grind (arith, (each zero x (omega arith)
 pub seat_costs_small : (n : NamedSys) (listed : List Listed) → All (λ x. x.cost ≤ MAX_COST) listed → (k a : ℕ) → seat_costs n listed k a ≤ MAX_COST
 seat_costs_small n listed each k a = grind (arith, cost_of_small)
 
--- the facts on which the count of the items of a text rests
+-- the rules for the number of items of a text
 pub ruleset counts = (items_len-items_view)

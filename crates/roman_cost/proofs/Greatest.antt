@@ -2,7 +2,7 @@
 use Rattle.roman_cost.proofs.Common.{◌≡◌, ℕ, ◌+◌, ◌<◌, List, [], ◌∷◌, map, length, get_or, take, refl, sym, ap, ap₂, ◌∙◌, arith, max, take_more, max_over, max_over_push, max_over-map, max_over-append}
 use Rattle.std.proofs.Common.{flat_map}
 
--- the greatest value after one element more
+-- the greatest value after one more element
 pub max_stepped : {X : Type 0} (f : X → ℕ) (xs : List X) (i : ℕ) (d : X) (best value new : ℕ) → best ≡ max_over f (take i xs) → i < length xs →
     value ≡ f (get_or xs i d) → new ≡ max best value → new ≡ max_over f (take (i + 1) xs)
 max_stepped f xs i d best value new before l is step =

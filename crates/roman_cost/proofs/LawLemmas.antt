@@ -1,4 +1,4 @@
--- The text of advice names least costs.
+-- The text of advice states least costs.
 use Rattle.roman_cost.proofs.Common.{◌≡◌, ℕ, ◌-◌, List, ◌++◌, codes, sym, ap, flat_map, below, sizes_of, count, number, pair_at, least, least_at, choice, through, allowed_actions, Pair, IsPair, is_allowed, related_great, great_related, numbers_are_pairs, filter_in, from_allowed, filter_sublist, NamedSys, system_of, worst_line, choice_line, certificate_text, advice_text, related_pairs, seat_costs, Listed, AdviceIsLeast}
 use Rattle.roman_cost.proofs.PlanningLemmas.{in_allowed, least_cost, choice_cheapest, cheapest_same}
 use Rattle.roman_cost.proofs.Ranks.{related_at, in_related, related_below, related_is}

@@ -10,7 +10,7 @@ named seats k seat h = get_or_from_slice_get (map seat_name seats) k seat.name [
 
 -- ---- texts of a list's items
 
--- the next text of a whole, as the code takes it
+-- an equal piece can replace the first text
 as_taken : (whole text rest piece : List ℕ) → whole ≡ text ++ rest → piece ≡ text → whole ≡ piece ++ rest
 as_taken whole text rest piece next is = next ∙ ap (λ (t : List ℕ). t ++ rest) (sym is)
 
@@ -18,14 +18,14 @@ as_taken whole text rest piece next is = next ∙ ap (λ (t : List ℕ). t ++ re
 next_text : (f : ℕ → List ℕ) (xs : List ℕ) (i : ℕ) → i < length xs → flat_map f (drop i xs) ≡ f (get_or xs i 0) ++ flat_map f (drop (i + 1) xs)
 next_text f xs i l = ap (flat_map f) (drop-cons xs i 0 l) ∙ ap (λ (j : ℕ). f (get_or xs i 0) ++ flat_map f (drop j xs)) (sym (add-one i))
 
--- a line in its parts
+-- the parts of a line
 in_parts : (a b c d e f g : List ℕ) → (a ++ b ++ c) ++ ((d ++ e) ++ (f ++ g)) ≡ a ++ b ++ c ++ d ++ e ++ f ++ g
 in_parts a b c d e f g = simp (append_assoc)
 
 value_parts : (h p value : ℕ) → value_head h ++ value_tail p value ≡ value_line h p value
 value_parts h p value = in_parts (codes "value ") (decimal h) (codes " ") (decimal p) (codes " ") (decimal value) (codes "\n")
 
--- the value of the pair at a place is taken next
+-- the line of the pair at a place can be taken next
 pub value_taken : (old now : Option (List ℕ)) (held all : List ℕ) (s : Sys) (C : Costs) (h : ℕ) (items pairs row : List ℕ) (i : ℕ) (head : List ℕ) → items ≡ pairs → i < length items → row ≡ map (least_at s C h) pairs → head ≡ value_head h →
     IsFilling old now held (flat_map (λ p. value_line h p (least_at s C h p)) (drop i pairs)) all →
     IsFilling old now held ((head ++ value_tail (get_or items i 0) (get_or row i 0)) ++ flat_map (λ p. value_line h p (least_at s C h p)) (drop (i + 1) pairs)) all
@@ -34,12 +34,12 @@ value_taken old now held all s C h items pairs row i head at l told begins filli
     grind (arith, as_taken, get_or-map, next_text, value_parts) in
     fill_same _ _ _ _ _ _ next filling
 
--- the next row has the values for one request more
+-- the next row has the values for one more request
 pub next_row : (s : Sys) (C : Costs) (n h : ℕ) → h < n →
     flat_map (λ h. value_lines s C (suc h)) (drop h (below n)) ≡ value_lines s C (h + 1) ++ flat_map (λ h. value_lines s C (suc h)) (drop (h + 1) (below n))
 next_row s C n h l = grind (arith, from_place)
 
--- no rows remain at the end
+-- no rows remain after the last one
 pub no_row : (s : Sys) (C : Costs) (n h : ℕ) → n ≤ h → flat_map (λ h. value_lines s C (suc h)) (drop h (below n)) ≡ []
 no_row s C n h l = ap (flat_map (λ h. value_lines s C (suc h))) (from_end n h l)
 
@@ -49,23 +49,23 @@ no_row s C n h l = ap (flat_map (λ h. value_lines s C (suc h))) (from_end n h l
 pub choices_from : NamedSys → Costs → ℕ → Pair → ℕ → List ℕ
 choices_from n C h p a = flat_map (choice_line n C h p) (filter (is_allowed (system_of n) p) (drop a (below (system_of n).env.actions)))
 
--- the line of an allowed action comes next
+-- the line of the next action comes first if the target allows the action
 next_choice : (n : NamedSys) (C : Costs) (h : ℕ) (p : Pair) (a : ℕ) → a < (system_of n).env.actions → IsTrue (is_allowed (system_of n) p a) →
     choices_from n C h p a ≡ choice_line n C h p a ++ choices_from n C h p (a + 1)
 unfolding choices_from
 next_choice n C h p a l allowed = grind (arith, cond-true, from_place)
 
--- the line of an allowed action is taken next
+-- the line of the next action can be taken if the target allows the action
 pub choice_taken : (old now : Option (List ℕ)) (held all : List ℕ) (n : NamedSys) (C : Costs) (h : ℕ) (p : Pair) (a : ℕ) (piece : List ℕ) → a < (system_of n).env.actions → IsTrue (is_allowed (system_of n) p a) →
     piece ≡ choice_line n C h p a → IsFilling old now held (choices_from n C h p a) all → IsFilling old now held (piece ++ choices_from n C h p (a + 1)) all
 choice_taken old now held all n C h p a piece l allowed is filling = fill_same _ _ _ _ _ _ (as_taken _ _ _ _ (next_choice n C h p a l allowed) is) filling
 
--- an action that isn't allowed has no line
+-- the next action has no line if the target doesn't allow it
 pub next_unallowed : (n : NamedSys) (C : Costs) (h : ℕ) (p : Pair) (a : ℕ) → a < (system_of n).env.actions → IsFalse (is_allowed (system_of n) p a) → choices_from n C h p a ≡ choices_from n C h p (a + 1)
 unfolding choices_from
 next_unallowed n C h p a l unallowed = grind (arith, cond-false, from_place)
 
--- no lines remain at the end
+-- no lines remain after the last action
 pub no_choice : (n : NamedSys) (C : Costs) (h : ℕ) (p : Pair) (a : ℕ) → (system_of n).env.actions ≤ a → choices_from n C h p a ≡ []
 unfolding choices_from
 no_choice n C h p a l = ap (λ (xs : List ℕ). flat_map (choice_line n C h p) (filter (is_allowed (system_of n) p) xs)) (from_end (system_of n).env.actions a l)
@@ -91,7 +91,7 @@ pub choice_line_is : (n : NamedSys) (C : Costs) (h : ℕ) (p : Pair) (a k cost :
     slice_get n.environment.actions a ≡ Some action → slice_get n.seats k ≡ Some seat → service_text action seat.name cost ≡ choice_line n C h p a
 choice_line_is n C h p a k cost action seat is costs action_named seated = grind (arith, get_or_from_slice_get, named)
 
--- ---- the whole
+-- ---- the whole text
 
 regroup : (a b c d : List ℕ) → a ++ (b ++ (c ++ (d ++ []))) ≡ a ++ b ++ c ++ d
 regroup a b c d = simp (append_assoc, append-nil)

@@ -27,7 +27,7 @@ offered s p a k ok l i =
           (subst (λ X. IsTrue (is_related s X)) (sym back) (great_related s R ok (all R o)));
     }
 
--- the same about a seat whose bit is on
+-- a seat whose bit is 1 has outcomes, and leads only to related pairs
 pub told_offered : (s : Sys) (p a k bits : ℕ) (has_it : Bool) → IsSys s → p < count (sizes_of s) → HasBits bits (has (offers s (pair_at (sizes_of s) p) a)) → k < 32 → has_it ≡ has_seat bits k → IsTrue has_it →
     IsOffered s p a k
 told_offered s p a k bits has_it ok l tell few is it =
@@ -46,7 +46,7 @@ cost_is s C h p a k ranks row is known =
     ap (λ m. C k a + m) (max_over_same (ranked ranks row) (least_at s C h) ((numbered s).outcomes p a k)
     (λ q j. ranked_value s C h (related_pairs s) ranks row q known.places (is.related q j) known.values)) ∙ through_numbered s C h p a k known.system is.pair
 
--- no cost is too great for the type
+-- every cost is a number of 32 bits
 pub through_fits : (s : Sys) (C : Costs) (h a k : ℕ) (P : Pair) (ranks row : List ℕ) → IsCostRow s C h ranks row → through s C (least s C h) P a k < 2 ^ 32
 through_fits s C h a k P ranks row known =
     let own : C k a ≤ MAX_COST = known.cheap k a in
@@ -54,7 +54,7 @@ through_fits s C h a k P ranks row known =
     let few = known.few in
     omega arith
 
--- the offers are the seats of the system that are among them
+-- the seats of the system that are offered are the offers
 pub offers_among : (s : Sys) (P : Pair) (a : ℕ) → IsTrue (is_allowed s P a) → filter (has (offers s P a)) (below (length s.seats)) ≡ offers s P a
 offers_among s P a allowed = grind (arith, cond-true, filter_has)
 
@@ -75,7 +75,7 @@ states_some : (g : ℕ → ℕ → ℕ) (envs states : List ℕ) → flat_map (�
 states_some g envs [] some = absurd (some (no_numbers g envs [] refl))
 states_some g envs (b ∷ states) some = omega arith
 
--- the outcomes of a delegation have 32 bits, and each property of all of them
+-- all outcomes of a delegation are numbers of 32 bits with the property
 pub are_outcomes : (n : Sizes) (k : ℕ) (P : ℕ → Type 0) (o : Outcomes) (numbers : List ℕ) → numbers ≡ outcome_numbers o → numbers ≢ [] → All P numbers →
     ((e b : ℕ) → IsIn e o.envs.now → IsIn b o.states.now → IsPairWith n k (outcome_number o e b) e b) → count n ≤ MAX_CELLS → AreOutcomes P o
 are_outcomes n k P o numbers is some all places few = record {

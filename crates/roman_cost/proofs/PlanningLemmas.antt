@@ -1,4 +1,4 @@
--- The plans by offers are those by seats that serve, and their worst-case costs are the greatest that can occur.
+-- The plans by offers are those by seats that serve, and their worst-case costs are the greatest costs that can occur.
 use Rattle.roman_cost.proofs.Common.{◌≡◌, ℕ, zero, suc, ◌+◌, ◌<◌, ◌≤◌, List, [], ◌∷◌, IsTrue, inl, inr, refl, sym, ap, ◌∙◌, subst, arith, ◌⊎◌, max, IsIn, below, Sys, Pair, IsSys, IsPair, Allows, outcomes, is_allowed, Great, couple, Serves, GreatCouple, offers, Costs, max_over, allowed_actions, least, through, choice, Plan, Leaf, Node, IsPlan, worst, chosen, by_test, in_filter, in_below, not_empty_in, ne_not_empty, allowed_in_range, from_allowed, outcome_pair, offer_is, choice_is, allowed_in, outcome_in, from_outcome, offers_are, plans_least, le-max_left, le-max_right, max-le, leb-true, leb-false, slice_get_within, LeadsTo, IsServingPlan, Event, MayCome, cost_of_events, IsWorstCost, IsLeastCost, CostsBy, IsCheapest, le_max_over}
 
 -- Plans.
@@ -124,7 +124,7 @@ through_costs s C rest p a k ok pair allowed offered =
       some = (q, from_outcome s p a k q j, ap (λ n. C k a + n) e);
     }
 
--- there is only one such cost
+-- the cost of an action through a seat is unique
 costs_once : (s : Sys) (C : Costs) (rest : Pair → ℕ) (p : Pair) (a k cost other : ℕ) → CostsBy s C rest p a k cost → CostsBy s C rest p a k other → cost ≡ other
 costs_once s C rest p a k cost other one two = grind arith
 
@@ -142,7 +142,7 @@ choice_cheapest s C h p a ok pair great allows =
           (costs_once s C (least s C h) p a j (through s C (least s C h) p a j) other (through_costs s C (least s C h) p a j ok pair allowed offered) costs) (is.best j offered);
     }
 
--- costs are the same if each pair costs the same
+-- if equal costs follow at each pair, the costs of the action are equal
 costs_same : (s : Sys) (C : Costs) (rest other : Pair → ℕ) (p : Pair) (a k cost : ℕ) → IsSys s → IsPair s p → ((q : Pair) → IsPair s q → rest q ≡ other q) →
     CostsBy s C rest p a k cost → CostsBy s C other p a k cost
 costs_same s C rest other p a k cost ok pair same costs = grind (arith, moves_in, outcome_pair)

@@ -14,7 +14,7 @@ related_below s p i = grind (arith, filter_in, from_below)
 pub related_is : (s : Sys) (p : ℕ) → IsIn p (related_pairs s) → IsTrue (related_at s p)
 related_is s p i = grind (arith, filter_in)
 
--- the answer of a relation about a pair is that test
+-- the answer of a relation about a pair equals `related_at`
 pub told_related : (s : Sys) (p : ℕ) (told : Bool) → IsSys s → p < count (sizes_of s) → (IsTrue told ↔ Great s (pair_at (sizes_of s) p)) → told ≡ related_at s p
 told_related s p told ok l says =
     let pair : IsPair s (pair_at (sizes_of s) p) = (numbers_are_pairs s).pair p l in
@@ -31,7 +31,7 @@ pub ranks_more : (q : ℕ → Bool) (n : ℕ) (ranks new : List ℕ) (r : ℕ) �
 ranks_more q n ranks new r before is next =
     next ∙ ap (λ xs. xs ++ r ∷ []) before ∙ ap (λ k. map (rank q) (below n) ++ k ∷ []) is ∙ sym (map_push (rank q) (below n) n) ∙ ap (λ m. map (rank q) (below m)) (sym (add-one n))
 
--- the ranks after all numbers below n are seen
+-- the ranks after all numbers below n
 pub ranks_done : (q : ℕ → Bool) (n : ℕ) (pairs ranks : List ℕ) → pairs ≡ filter q (below n) → ranks ≡ map (rank q) (below n) → HavePlaces pairs ranks
 ranks_done q n pairs ranks ps rs = subst (λ xs. HavePlaces xs ranks) (sym ps) (subst (λ xs. HavePlaces (filter q (below n)) xs) (sym rs) (record {
   within = λ p i. let l : p < n = small p i in subst (λ m. p < m) (sym long) l;

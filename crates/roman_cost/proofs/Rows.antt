@@ -31,19 +31,19 @@ row_at s C pairs (suc n) h l =
       | inr ne ↦ range_left rows last (h * length pairs) (length pairs) (row_fits s C pairs rows n h (omega arith) refl) ∙ row_at s C pairs n h (omega arith)
     ]
 
--- the row for h requests of values that are such rows
+-- the row for h requests, in the rows of the values
 pub row_told : (s : Sys) (C : Costs) (pairs values row : List ℕ) (n h : ℕ) → h < n → values ≡ value_rows s C pairs n →
     row ≡ slice_range values (h * length pairs) (h * length pairs + length pairs) → row ≡ map (least_at s C h) pairs
 row_told s C pairs values row n h l is told = told ∙ ap (λ vs. slice_range vs (h * length pairs) (h * length pairs + length pairs)) is ∙ row_at s C pairs n h l
 
--- a row of advice
+-- the row for h requests of advice
 pub table_row : (s : Sys) (C : Costs) (table : AdviceTable) (values : List ℕ) (n h : ℕ) → Advises s C table → h ≤ table.requests → values ≡ table.values → n ≡ length table.pairs →
     slice_range values (h * n) (h * n + n) ≡ map (least_at s C h) (related_pairs s)
 table_row s C table values n h says few same long =
     ap (λ k. slice_range values (h * k) (h * k + k)) long
     ∙ row_told s C table.pairs values _ (suc table.requests) h (omega arith) (same ∙ says.values) refl ∙ ap (map (least_at s C h)) says.pairs
 
--- a row of advice is one from which costs are computed
+-- the costs for one more request can be computed from a row of advice
 pub table_is_row : (s : Sys) (C : Costs) (table : AdviceTable) (ranks row : List ℕ) (h : ℕ) → IsSys s → ((k a : ℕ) → C k a ≤ MAX_COST) → h < MAX_REQUESTS → Advises s C table → HavePlaces table.pairs ranks →
     row ≡ map (least_at s C h) table.pairs → IsCostRow s C h ranks row
 table_is_row s C table ranks row h ok cheap few says are is = record {
@@ -67,7 +67,7 @@ pub resized_row : (s : Sys) (C : Costs) (pairs values new : List ℕ) (n m : ℕ
     new ≡ value_rows s C pairs 1
 resized_row s C pairs values new n m empty none long is = grind (arith, first_row, take-nil)
 
--- a row so far, after one value more
+-- a row so far, after one more value
 pub row_more : (f : ℕ → ℕ) (rows pairs values new : List ℕ) (i value : ℕ) → i < length pairs → values ≡ rows ++ map f (take i pairs) → value ≡ f (get_or pairs i 0) →
     new ≡ values ++ value ∷ [] → new ≡ rows ++ map f (take (i + 1) pairs)
 row_more f rows pairs values new i value l before is next =

@@ -7,7 +7,7 @@ use Rattle.roman_cost.proofs.Ranks.{related_below, related_is}
 
 -- Lists that grow.
 
--- the list after one number more below the bound, which passes or doesn't
+-- the list after one more number below the bound, which passes or doesn't pass
 pub flat_taken : {X : Type 0} (f : ℕ → List X) (p : ℕ → Bool) (k : ℕ) (old terms new : List X) → p k ≡ true → terms ≡ old ++ flat_map f (filter p (below k)) → new ≡ terms ++ f k →
     new ≡ old ++ flat_map f (filter p (below (k + 1)))
 flat_taken f p k old terms new passes before is = grind (arith, append-nil, append_assoc, filter_taken, flat_map-append)
@@ -18,7 +18,7 @@ flat_passed f p k old terms fails before = grind (arith, filter_passed)
 
 -- Values.
 
--- the state of the computation
+-- a state of the computation
 abbrev standing : ℕ → Option ℕ → ℕ → Standing
 standing w c d = record { worst = w; cheapest = c; dearest = d }
 
@@ -86,7 +86,7 @@ module _ (s : Sys) (C : Costs) (h : ℕ) (ranks row : List ℕ) (known : IsCostR
       ∙ worked_action p a (flat_map (action_terms s C ranks p) acts ++ rest) w related (allowed a (inl refl))
       ∙ worked_actions p acts rest (max w (f a)) related (λ b i. allowed b (inr i)) ∙ ap (λ m. worked_out row rest (standing m None 0)) e
 
-  -- the terms of related pairs give their values for one request more
+  -- the terms of related pairs give their values for one more request
   pub worked_pairs : (ps : List ℕ) → ((p : ℕ) → IsIn p ps → IsIn p (related_pairs s)) → worked_out row (flat_map (pair_terms s C ranks) ps) nothing_yet ≡ map (least_at s C (suc h)) ps
   worked_pairs [] related = refl
   worked_pairs (p ∷ ps) related =
@@ -109,7 +109,7 @@ module _ (s : Sys) (C : Costs) (h : ℕ) (ranks row : List ℕ) (known : IsCostR
 pub rest_in : (xs : List ℕ) (n p : ℕ) → IsIn p (take (length xs - n) (drop n xs)) → IsIn p xs
 rest_in xs n p i = subst (IsIn p) (take-append-drop n xs) (in_append_right p (take n xs) (drop n xs) (subst (IsIn p) (rest_is xs n) i))
 
--- the values of the first pairs and of the others are those of all
+-- the values of the first pairs, followed by those of the others, are the values of all pairs
 pub values_whole : (f : ℕ → ℕ) (pairs none first all : List ℕ) (n : ℕ) → none ≡ [] → first ≡ none ++ map f (take n pairs) → all ≡ first ++ map f (take (length pairs - n) (drop n pairs)) → all ≡ map f pairs
 values_whole f pairs none first all n empty one two =
     two ∙ ap₂ (λ (xs ys : List ℕ). xs ++ map f ys) (one ∙ ap (λ (xs : List ℕ). xs ++ map f (take n pairs)) empty) (rest_is pairs n) ∙ sym (map-append f (take n pairs) (drop n pairs)) ∙ ap (map f) (take-append-drop n pairs)

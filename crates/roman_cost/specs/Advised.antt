@@ -33,7 +33,7 @@ pub record HavePlaces (pairs ranks : List ℕ) : Type 0 where
   pub below : (p : ℕ) → IsIn p pairs → slice_index ranks p < length pairs
   pub at : (p : ℕ) → IsIn p pairs → slice_index pairs (slice_index ranks p) ≡ p
 
--- the number of requests is within its limit, the pairs have ranks, and each row has one value for each of them
+-- the number of requests is within its limit, the pairs have ranks, and each row has one value for each of the pairs
 pub record HasRanks (requests : ℕ) (pairs places values : List ℕ) : Type 0 where
   pub few : requests ≤ MAX_REQUESTS
   pub ranks : HavePlaces pairs places

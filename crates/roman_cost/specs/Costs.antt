@@ -1,4 +1,4 @@
--- What a text of costs means: the costs that it lists, or the first rule that it breaks.
+-- The meaning of a text of costs: the costs that it lists, or the first rule that it breaks.
 use Rattle.std.specs.Prelude.{ℕ, List, [], ◌∷◌, ◌++◌, map, length, is_none, nat_le, Result, Ok}
 use Rattle.serde_json.specs.Data.{Data}
 use Rattle.serde_json.specs.Events.{items_len}
@@ -42,7 +42,7 @@ costs_in behaviours actions d = do
   few ← check (nat_le (items_len items) MAX_COSTS) kind.Count list.Whole 0 items
   each_item (cost_step behaviours actions) 0 [] few
 
--- the same for the behaviours and actions of a system
+-- the costs of a value for the behaviours and actions of a system
 abbrev pub item_for : NamedSys → ℕ → Data → Result Listed PartError
 item_for n = cost_item (map beh_name n.catalogue) n.environment.actions
 
@@ -52,7 +52,7 @@ step_for n = cost_step (map beh_name n.catalogue) n.environment.actions
 abbrev pub costs_for : NamedSys → Data → Result (List Listed) PartError
 costs_for n = costs_in (map beh_name n.catalogue) n.environment.actions
 
--- the value of a text within its limit
+-- the JSON value of a text within its limit
 unfoldable pub value_of : Texts → List ℕ → Result Data PartError
 value_of texts name =
     let text = shelf_text texts name in

@@ -20,7 +20,8 @@ pub record CanFill (relation : Relation) (costs : CostTable) (ranks : List ℕ) 
   pub priced : AreOf relation.joint costs
   pub places : HavePlaces (related_pairs (system_of relation.joint)) ranks
 
--- a row has the least costs of h requests at the related pairs, where each cost is within its limit and one more request is too
+-- a row has the least costs of h requests at the related pairs, where each cost is within its limit and h + 1 is within the
+-- limit of requests
 pub record IsCostRow (s : Sys) (C : Costs) (h : ℕ) (ranks row : List ℕ) : Type 0 where
   pub system : IsSys s
   pub cheap : (k a : ℕ) → C k a ≤ MAX_COST

@@ -1,4 +1,4 @@
--- What the text of advice says, in terms of the greatest ND-simulation, of steps and of plans.
+-- What the text of advice states, in terms of the greatest ND-simulation, steps and plans.
 use Rattle.std.specs.Prelude.{◌≡◌, ℕ, suc, ◌-◌, ◌<◌, ◌↔◌, List, ◌++◌, map, codes}
 use Rattle.std.specs.List.{flat_map}
 use Rattle.roman_model.specs.Composition.{Great}
@@ -34,7 +34,7 @@ pub record TellsLeast (n : NamedSys) (C : Costs) (requests : ℕ) (p : Pair) (te
       ++ flat_map (λ h. flat_map (λ q. value_line (suc h) q (value (suc h) q)) pairs) (below requests)
       ++ codes "end\n"
 
--- advice at a related pair names least costs
+-- advice at a related pair states least costs
 abbrev pub AdviceIsLeast : Type 0
 AdviceIsLeast = (n : NamedSys) (listed : List Listed) (requests : ℕ) (p : Pair) → IsSys (system_of n) → IsPair (system_of n) p → Great (system_of n) p →
     TellsLeast n (seat_costs n listed) requests p (advice_text n listed requests p)

@@ -1,4 +1,4 @@
--- Words for contracts that speak of a system with its names: its pairs by their numbers, and the terms and values by listed costs.
+-- Words for contracts about a system with its names: its pairs by their numbers, and the terms and values by listed costs.
 use Rattle.std.specs.Prelude.{◌≡◌, ℕ, ◌<◌, List, ◌++◌, map, IsTrue, Result, OnOk}
 use Rattle.std.specs.List.{flat_map}
 use Rattle.roman_model.specs.Numbers.{sizes_of, count, pair_at}
@@ -40,11 +40,11 @@ AllowsAt n p a = IsTrue (is_allowed (system_of n) (numbered_pair n p) a)
 
 -- ---- advice by a table of costs
 
--- the advice was built by the costs
+-- the advice was built from the costs
 abbrev pub AdvisesFor : NamedSys → CostTable → AdviceTable → Type 0
 AdvisesFor n costs advice = Advises (system_of n) (seat_costs n costs.listed) advice
 
--- the list of the relation is complete, the advice was built by it and by the costs, and the number is that of a related pair
+-- the relation's list is complete, the advice was built from it and the costs, and the number is that of a related pair
 pub record CanAdvise (relation : Relation) (costs : CostTable) (advice : AdviceTable) (p : ℕ) : Type 0 where
   pub complete : IsRelation relation.joint relation.order
   pub priced : AreOf relation.joint costs

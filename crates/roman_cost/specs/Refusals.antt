@@ -13,13 +13,14 @@ abbrev pub place_of_rule : Bool → Place
 place_of_rule true = list.Whole
 place_of_rule false = list.Steps
 
--- a refusal is the one that the definition gives; a fault and running out of memory state nothing
+-- a refusal is the one that the definition gives; nothing is stated after a fault and out of memory
 abbrev pub IsRefusedBy : {Y : Type 0} → CostError → Result Y PartError → Type 0
 IsRefusedBy error.Fault reading = Unit {0}
 IsRefusedBy (error.Refused kind whole index) reading = reading ≡ Err (part_error.Refused kind (place_of_rule whole) index)
 IsRefusedBy error.Memory reading = Unit {0}
 
--- the value that the code reads, seen through a view, is the one that the definition gives, and so is a refusal
+-- the view of the value that the code reads is the value that the definition gives; a refusal is also the one that the
+-- definition gives
 abbrev pub ReadsAs : {X Y : Type 0} → (X → Y) → Result X CostError → Result Y PartError → Type 0
 ReadsAs view (Ok x) reading = reading ≡ Ok (view x)
 ReadsAs view (Err e) reading = IsRefusedBy e reading

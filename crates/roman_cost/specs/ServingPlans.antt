@@ -30,12 +30,12 @@ cost_of_events C plan [] = 0
 cost_of_events C Leaf (m ∷ ms) = 0
 cost_of_events C (Node seat next) (m ∷ ms) = C (seat m.action) m.action + cost_of_events C (next m.action m.to) ms
 
--- no events that can occur cost more, and some cost as much
+-- no events that can occur cost more, and some of them cost as much
 pub record IsWorstCost (s : Sys) (C : Costs) (p : Pair) (plan : Plan) (cost : ℕ) : Type 0 where
   pub within : (ms : List Event) → MayCome s p plan ms → cost_of_events C plan ms ≤ cost
   pub some : (ms : List Event) × MayCome s p plan ms × (cost_of_events C plan ms ≡ cost)
 
--- the least worst-case cost of h requests: some plan for them has it, and none has less
+-- the least worst-case cost of h requests: some plan for them has this cost, and no plan has a lower one
 pub record IsLeastCost (s : Sys) (C : Costs) (h : ℕ) (p : Pair) (value : ℕ) : Type 0 where
   pub plan : Plan
   pub is : IsServingPlan s h p plan
@@ -47,7 +47,7 @@ pub record CostsBy (s : Sys) (C : Costs) (rest : Pair → ℕ) (p : Pair) (a k c
   pub within : (q : Pair) → LeadsTo s p a k q → C k a + rest q ≤ cost
   pub some : (q : Pair) × LeadsTo s p a k q × (C k a + rest q ≡ cost)
 
--- the seat serves a at that cost, and each other seat that serves it costs more, or costs as much and comes later
+-- the seat serves a at that cost; each other seat that serves it costs more, or costs as much and comes later
 pub record IsCheapest (s : Sys) (C : Costs) (rest : Pair → ℕ) (p : Pair) (a k cost : ℕ) : Type 0 where
   pub serves : Serves s (GreatCouple s) (couple p) a k
   pub costs : CostsBy s C rest p a k cost

@@ -34,7 +34,7 @@ pub struct Advice {
     values: Vec<u32>,
 }
 
-// One call. At each exit of a function that owns advice, a derived drop would be a step for each vector.
+// Replaces the derived drop, which adds a proof step for each vector to every exit.
 impl Drop for Advice {
     fn drop(self) {
         let Advice {
@@ -122,9 +122,9 @@ impl Advice {
         &self.pairs
     }
 
-    /// Returns the least worst-case cost of `h` requests at the related pair `p`: the minimum over all
-    /// plans for them of the maximum over all requests of the target and all outcomes. Requires `h`
-    /// from 0 to the number of requests for which the advice was built.
+    /// Returns the least worst-case cost of `h` requests at the related pair `p`: the minimum over
+    /// all plans for them of the maximum over all requests of the target and all outcomes. Requires
+    /// `h` from 0 to the number of requests for which the advice was built.
     pub fn value(&self, h: u8, p: u32) -> u32
         requires requests { h ≤ self.now.requests }
         requires related { IsIn p self.now.pairs }
@@ -147,9 +147,10 @@ impl Advice {
 
     /// Returns the cheapest service for the action `a` at the related pair `p`, and its cost. The
     /// cost is the least worst-case cost of `h` requests of which the first is `a` and is delegated
-    /// to the service. Of several cheapest services it returns the first. Requires that the target
-    /// allows the action at the pair, the relation and the costs of [`build`](Advice::build), and
-    /// `h` from 1 to the number of requests for which the advice was built. Allocates no memory.
+    /// to the service. If several services are cheapest, it returns the first. Requires that the
+    /// target allows the action at the pair, the relation and the costs of
+    /// [`build`](Advice::build), and `h` from 1 to the number of requests for which the advice was
+    /// built. Allocates no memory.
     pub fn choice(&self, relation: &Relation, costs: &Costs, h: u8, p: u32, a: u8) -> (u8, u32)
         requires known { CanAdvise relation.now costs.now self.now p }
         requires requests { (0 < h) × (h ≤ self.now.requests) }

@@ -1,4 +1,4 @@
-//! Stores what behaviours cost for actions.
+//! Stores the costs of behaviours for actions.
 ghost use Rattle.std.specs.Prelude.{◌≡◌, ◌<◌, ◌≤◌, [], ◌∷◌, ◌++◌, is_some, All, IfOk, OnOk, None};
 ghost use Rattle.roman_model.specs.declared.limits.TheConstants.{MAX_BEHAVIOURS, MAX_ACTIONS};
 ghost use Rattle.roman_cost.specs.Tables.{CostTable, listed_cost, cost_of};
@@ -24,11 +24,11 @@ pub struct Costs {
     behaviours: usize,
     actions: usize,
     listed: Vec<Listed>,
-    // By behaviour and then by action: the listed cost, if there is one.
+    // The listed cost, if there is one, by behaviour and then by action.
     cells: Vec<Option<u32>>,
 }
 
-// One call. At each exit of a function that owns costs, a derived drop would be a step for each vector.
+// Replaces the derived drop, which adds a proof step for each vector to every exit.
 impl Drop for Costs {
     fn drop(self) {
         let Costs {

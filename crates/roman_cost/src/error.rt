@@ -1,4 +1,4 @@
-//! Defines why costs can't be read, and why advice can't be built.
+//! The errors of reading costs and of building advice.
 ghost use Rattle.std.specs.Prelude.{◌≡◌};
 ghost use Rattle.roman_cost.specs.Errors.{cost_error_number, advice_error_number};
 ghost use Rattle.roman_cost.specs.declared.error.CostError.TheVariants as cost;
@@ -8,7 +8,7 @@ use roman_read::Kind;
 use std::alloc::AllocError;
 use thiserror::Error;
 
-/// The reasons why a text's costs can't be read.
+/// The reasons why costs can't be read from a text.
 #[derive(Clone, Copy, Debug, PartialEq, Eq, Error)]
 pub enum CostError {
     /// The shelf failed, and its count of faults rose.
@@ -25,7 +25,7 @@ pub enum CostError {
         /// The number of that item, from 0. It is 0 when the text as a whole breaks the rule.
         index: u32,
     },
-    /// There is no memory.
+    /// Out of memory.
     #[error("there is no memory")]
     Memory,
 }
@@ -58,7 +58,7 @@ pub enum AdviceError {
     /// [`MAX_VALUES`](crate::MAX_VALUES).
     #[error("there are too many values")]
     Limit,
-    /// There is no memory.
+    /// Out of memory.
     #[error("there is no memory")]
     Memory,
 }

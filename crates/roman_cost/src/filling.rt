@@ -11,7 +11,7 @@ use crate::terms::{Term, push_pair, work_out};
 use roman_relation::Relation;
 use std::alloc::{AllocError, Global};
 
-/// The approximate limit on the terms that are kept from row to row.
+/// The approximate limit on the terms that are stored for all rows.
 const MAX_TERMS: usize = 1_048_576;
 
 /// Returns the related pairs, in rising order, and for each pair of the system the number of

@@ -1,12 +1,12 @@
-//! Computes what delegations cost, and the cheapest of them.
+//! Computes the costs of delegations, and the cheapest delegations.
 //!
-//! [`read_costs`] reads from a text on a shelf what behaviours cost for actions. [`Advice`] has,
-//! for each related pair and each number of requests, the least worst-case cost: the least that the
-//! requests cost at worst, whatever the target requests and whichever outcomes follow. It also gives
-//! the service to which the next request is best delegated. [`put_advice`] writes all these values as
-//! a text, with the service to take for each request that can come first. `specs/Costs` says what a
-//! text of costs means, `specs/AdviceText` what the text of advice is, and `specs/Laws` what it says
-//! of plans.
+//! [`read_costs`] reads the costs of behaviours for actions from a text on a shelf. [`Advice`] has,
+//! for each related pair and each number of requests, the least worst-case cost. This is the least
+//! amount that suffices for the requests, for any requests of the target and any outcomes. It also
+//! gives the cheapest service for the next request. [`put_advice`] writes all these values as a
+//! text, with the service to take for each request that can come first. `specs/Costs` defines the
+//! meaning of a text of costs, `specs/AdviceText` the text of advice, and `specs/Laws` what it
+//! states about plans.
 #![tactic(auto)]
 
 mod advice;

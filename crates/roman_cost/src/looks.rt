@@ -1,4 +1,4 @@
-//! Reads parts of a text of costs, and names the broken rule when a part is missing or wrong.
+//! Reads parts of a text of costs. Names the broken rule if a part is missing or wrong.
 ghost use Rattle.std.specs.Prelude.{◌≡◌, ◌<◌, true, false, map, length, IfOk};
 ghost use Rattle.serde_json.specs.View.{view, items_view};
 ghost use Rattle.roman_read.specs.Json.{list_of, number_of};

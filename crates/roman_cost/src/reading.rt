@@ -60,7 +60,6 @@ fn read_value<F: Shelf>(alloc: Global, shelf: &mut F, name: &str) -> Result<Valu
 }
 
 #[tactic(auto, using(crate::proofs::CostLemmas::counts), unfolding(crate::specs::Costs::costs_in))]
-/// Reads the costs that a value lists.
 fn costs_in(alloc: Global, joint: &Joint, v: &Value) -> Result<Costs, CostError>
     requires few { length joint.now.catalogue ≤ MAX_BEHAVIOURS }
     ensures costs { ReadsAs (λ costs. costs.listed) result (costs_for joint.now (view v.now)) }
@@ -75,7 +74,6 @@ fn costs_in(alloc: Global, joint: &Joint, v: &Value) -> Result<Costs, CostError>
 }
 
 #[tactic(auto, using(roman_read::proofs::CallerLemmas::each))]
-/// Reads the costs that the items of a list state.
 fn read_items(alloc: Global, joint: &Joint, items: &[Value]) -> Result<Costs, CostError>
     requires few { length joint.now.catalogue ≤ MAX_BEHAVIOURS }
     requires items { length items.now ≤ MAX_COSTS }

@@ -9,8 +9,8 @@ use crate::costs::Costs;
 use crate::outcomes::greatest_outcome;
 use roman_joint::Joint;
 
-/// Returns the worst-case cost of the action `a` at the pair `p` when it is delegated to the offered
-/// service `k`. `row` has the costs of the requests that follow.
+/// Returns the worst-case cost of the action `a` at the pair `p` when it is delegated to the
+/// offered service `k`. `row` has the costs of the requests that follow.
 pub(crate) fn cost_through(
     joint: &Joint,
     costs: &Costs,
@@ -33,8 +33,8 @@ pub(crate) fn cost_through(
     cost + greatest_outcome(ranks, row, outcomes)
 }
 
-/// Returns the better of the best service so far and the service `k`. Of two services of equal cost
-/// the best so far stays.
+/// Returns the better of the best service so far and the service `k`. If their costs are equal,
+/// returns the best so far.
 pub(crate) fn better(best: Option<(u8, u32)>, k: u8, cost: u32) -> Option<(u8, u32)>
     ensures { result ≡ better_of best k cost }
 {

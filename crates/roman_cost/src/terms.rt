@@ -100,7 +100,7 @@ fn value_in(row: &[u32], rank: u32) -> u32
     if i < row.len() { row[i] } else { 0 }
 }
 
-/// Computes the values of the pairs whose terms these are, and appends them to `values`. `row` has
+/// Computes the values of the pairs that have these terms, and appends them to `values`. `row` has
 /// the values for one request fewer. Fails only when out of memory.
 pub(crate) fn work_out(terms: &[Term], row: &[u32], values: &mut Vec<u32>) -> Result<(), AllocError>
     ensures { Appends values.old.items values.new.items (worked_out row.now terms.now nothing_yet) result }

@@ -19,8 +19,8 @@ use roman_rules::Rules;
 use roman_text::{Page, Piece};
 
 /// Writes the text of advice from the related pair `start` on. The text has the worst cost of the
-/// requests for which the advice was built. It has, for each action that the target allows at the
-/// pair, the service to take and the cost of the requests through it. It has all values for one
+/// requests for which the advice was built. For each action that the target allows at the pair it
+/// has the service to take, and the cost of the requests through it. It has all values for one
 /// request or more. Requires the relation and the costs of [`build`](Advice::build).
 ///
 /// Fails only when the sink's count of faults rose; it then wrote a prefix of the text.
@@ -154,10 +154,11 @@ fn push_value<O: Sink>(
     page.push_number_then(value, b"\n", out)
 }
 
-/// Does nothing. Its contract states a law on the text of advice. Each value of the text is the least
-/// worst-case cost of that number of requests, over all plans, at a pair of the greatest ND-simulation.
-/// The text names all such pairs and no others. For each action that the target allows at the pair of
-/// the advice it names the first of the services that serve the action at the least cost, and that cost.
+/// Does nothing. Its contract states a law on the text of advice. Each value of the text is the
+/// least worst-case cost of that number of requests, over all plans, at a pair of the greatest
+/// ND-simulation. The text names all such pairs and no others. For each action that the target
+/// allows at the pair of the advice, it names the first of the cheapest services that serve the
+/// action, and its cost.
 #[tactic(auto, using(crate::proofs::LawLemmas::advice_least))]
 pub fn advice_is_least()
     ensures least { AdviceIsLeast }

@@ -11,8 +11,8 @@ use std::alloc::{AllocError, Global};
 use std::process::Abort;
 use std::test::Fail;
 
-/// What a request for advice shows, the document (on the shelf as `s.json`), the text of the costs (on
-/// the shelf as `c.json`), the words, and the expected outcome.
+/// What a request for advice shows, the document (on the shelf as `s.json`), the text of the costs
+/// (on the shelf as `c.json`), the words, and the expected outcome.
 type Asked = (
     &'static str,
     Text,
@@ -189,7 +189,7 @@ static NO_NUMBERS: [&str; 13] = [
     "0", "65", "01", "+1", "", "-1", "00", "064", "1.0", "1e1", " 1", "99", "100",
 ];
 
-/// Texts of costs, and what their refusal lines say.
+/// Texts of costs, and their refusal lines after the first word.
 static TEXTS: [(&str, &str); 17] = [
     ("", "c.json notjson costs 0 whole 0"),
     ("[", "c.json notjson costs 0 whole 0"),
@@ -282,7 +282,7 @@ fn requests_are_counted_in_plain_digits(rt: HostRuntime) -> Result<(), Fail> {
     Ok(())
 }
 
-/// Asserts that a text of costs is refused, and that its refusal line says this.
+/// Asserts that a text of costs is refused with this line, given without its first word.
 fn refused(rt: &(impl Abort + AllocGlobal), costs: Vec<u8>, line: &str) -> Result<(), AllocError> {
     let files = [("s.json", document!(SPARE))];
     let words = ["advise", "s.json", "c.json", "1"];
@@ -291,7 +291,7 @@ fn refused(rt: &(impl Abort + AllocGlobal), costs: Vec<u8>, line: &str) -> Resul
     Ok(())
 }
 
-/// Returns the text of three items, of which this item is at the given place.
+/// Returns the text of three items, with this item at the given place.
 fn items_with(alloc: Global, place: usize, item: &str) -> Result<Vec<u8>, AllocError> {
     let [first, second] = GOOD;
     let text = match place {

@@ -1,4 +1,4 @@
-//! Runs over objects in memory, and the outcomes that they must have.
+//! Runs over objects in memory, and their expected outcomes.
 ghost use Rattle.std.specs.Prelude.{◌≡◌, ◌<◌};
 
 use crate::texts::Text;
@@ -10,7 +10,7 @@ use std::process::Abort;
 use std::sync::ledger::{Blank, Ledger};
 use std::test::Fail;
 
-/// The line that is written if the words are no command.
+/// The line that is written if the words form no command.
 pub(crate) const USAGE: &str =
     "usage: roman synth SYSTEM | run SYSTEM [SESSION] | certify SYSTEM | check SYSTEM CERT | make N | resilience SYSTEM | shortest SYSTEM | advise SYSTEM COSTS H";
 
@@ -33,7 +33,7 @@ pub(crate) type File = (&'static str, Text);
 #[derive(Clone, Copy)]
 pub(crate) enum Outcome<'a> {
     /// These lines are written, and the status is `Done`. A line `tally N` stands for any line
-    /// `kept K added M` in which K and M add up to N.
+    /// `kept K added M` with K and M that add up to N.
     Done(&'a [&'a str]),
     /// These lines and then those of a report are written, and the status is `Done`.
     Reports(&'a [&'a str], &'a [&'a str]),
@@ -43,7 +43,7 @@ pub(crate) enum Outcome<'a> {
     Refused(&'a str),
     /// The system has more cells than this limit.
     Limit(&'a str),
-    /// The words are no command.
+    /// The words form no command.
     Usage,
     /// A text isn't on the shelf, and nothing is written.
     Gone,
@@ -68,8 +68,8 @@ impl Outcome<'_> {
         }
     }
 
-    /// Asserts that the run of this name, which ended with this status and wrote to this sink, has this
-    /// outcome.
+    /// Asserts that the run of this name, which ended with this status and wrote to this sink, has
+    /// this outcome.
     pub(crate) fn expect(self, rt: &impl Abort, name: &str, status: Status, out: &MemSink) {
         let text = str::from_utf8(out.bytes()).unwrap_or("no text");
         assert!(rt;
@@ -110,7 +110,8 @@ impl Case<'_> {
     }
 }
 
-/// What a run shows, the texts on the shelf, the words after the program's name, and its expected outcome.
+/// What a run shows, the texts on the shelf, the words after the program's name, and its expected
+/// outcome.
 pub(crate) type Command = (
     &'static str,
     &'static [File],
@@ -236,8 +237,8 @@ fn counted<I: Source, O: Sink, L: Ledger>(
     serve(alloc, words, shelf, input, out, &mut Steps::<L>::new(blank))
 }
 
-/// Runs the program on these files and on one more, without input. Returns the status, and the sink with
-/// what was written.
+/// Runs the program on these files and on one more, without input. Returns the status, and the sink
+/// with the written text.
 pub(crate) fn run_beside(
     alloc: Global,
     words: &[&str],
@@ -276,7 +277,7 @@ pub(crate) fn text_of(alloc: Global, lines: &[&str]) -> Result<Vec<u8>, AllocErr
     Ok(text)
 }
 
-/// Returns whether the text is just the wanted lines, followed by those of a report.
+/// Returns whether the text consists of the wanted lines, followed by those of a report.
 fn has_lines(text: &str, wanted: &[&str], report: &[&str]) -> bool {
     let mut lines = text.split('\n');
     for wanted in wanted.iter().chain(report) {
@@ -288,7 +289,7 @@ fn has_lines(text: &str, wanted: &[&str], report: &[&str]) -> bool {
     lines.next() == Some("") && lines.next().is_none()
 }
 
-/// Returns whether the text is just the line that joins these two parts.
+/// Returns whether the text is the line that joins these two parts.
 fn is_line(text: &str, first: &str, rest: &str) -> bool {
     match text.strip_prefix(first) {
         Some(text) => text.strip_suffix("\n") == Some(rest),

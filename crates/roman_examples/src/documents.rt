@@ -12,7 +12,7 @@ use std::alloc::AllocError;
 use std::process::Abort;
 use std::test::Fail;
 
-/// An environment with three states, each of which both actions keep.
+/// An environment with three states. Both actions keep each of them.
 const THREE_STATES: &[Part] = &[
     Is(r#"{"states":["e1","e2","e3"],"start":"e1","actions":["on","off"],"#),
     Is(r#""steps":[["e1","on","e1"],["e2","on","e2"],["e3","on","e3"],"#),

@@ -34,7 +34,8 @@ enum Fault {
 }
 
 impl Fault {
-    /// Returns the numbers of the calls of this kind that fail, when call `i` of the kind `fault` fails.
+    /// Returns the numbers of the calls of this kind that fail, if call `i` of the kind `fault`
+    /// fails.
     fn calls(self, alloc: Global, fault: Fault, i: u64) -> Result<Vec<u64>, AllocError> {
         let mut calls = Vec::new(alloc);
         if self == fault {
@@ -43,8 +44,8 @@ impl Fault {
         Ok(calls)
     }
 
-    /// Returns the words of the run. Its session comes from the shelf if a fetch fails, and from the
-    /// input otherwise.
+    /// Returns the words of the run. Its session comes from the shelf if a fetch fails, and from
+    /// the input otherwise.
     fn words(self) -> &'static [&'static str] {
         match self {
             Fault::Fetch => &["run", "lamp.json", "s.txt"],
@@ -53,12 +54,12 @@ impl Fault {
     }
 }
 
-/// The numbers of some calls, from the first to before the second. If one of them fails, the session ends
-/// with this status, and this many bytes of the replies are written.
+/// The calls from the first number on, up to and without the second. If one of them fails, the
+/// session ends with this status, and this many bytes of the replies are written.
 type Span = (u64, u64, Status, usize);
 
-/// The takes of an input that gives one byte at a time: one for each byte, and one at the end. The replies
-/// to the lines before the fault are written.
+/// The takes of an input that gives one byte at a time: one for each byte, and one at the end. The
+/// replies to the lines before the fault are written.
 static TAKES: [Span; 8] = [
     (0, 6, Status::ReadFault, 0),
     (6, 13, Status::ReadFault, 9),
@@ -81,8 +82,8 @@ static PUTS: [Span; 7] = [
     (6, 7, Status::Done, 55),
 ];
 
-/// The fetches: one for the document, one at its end, and as many for the session. Nothing is written
-/// before the whole session was fetched.
+/// The fetches: one for the document, one at its end, and as many for the session. Nothing is
+/// written before the whole session was fetched.
 static FETCHES: [Span; 3] = [
     (0, 3, Status::ShelfFault, 0),
     (3, 4, Status::ShelfFault, 55),
@@ -90,7 +91,8 @@ static FETCHES: [Span; 3] = [
 ];
 
 /// Runs the session with an input in pieces of `piece` bytes, in which call `i` of this kind fails.
-/// Asserts that it ends with this status, and that just the first `len` bytes of the replies are written.
+/// Asserts that it ends with this status, and that exactly the first `len` bytes of the replies are
+/// written.
 fn breaks_off(
     rt: &(impl Abort + AllocGlobal),
     fault: Fault,
@@ -117,7 +119,7 @@ fn breaks_off(
     Ok(())
 }
 
-/// Asserts that the session breaks off as the spans say, when each call of this kind fails in turn.
+/// Asserts that the session ends early as the spans state, for each call of this kind that fails.
 fn each_breaks_off(
     rt: &(impl Abort + AllocGlobal),
     fault: Fault,

@@ -1,5 +1,4 @@
-//! Worked examples: whole runs of the program over objects in memory, with what each must write and the
-//! status with which it must end.
+//! Worked examples: whole runs of the program in memory, each with its expected output and status.
 #![tactic(auto)]
 
 #[cfg(test)]

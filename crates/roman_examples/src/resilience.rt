@@ -1,4 +1,4 @@
-//! What remains when services fail.
+//! The outlook after services fail.
 
 use crate::case::Outcome::{Done, Limit, Refused};
 use crate::case::{Row, Runs, run_beside, synth};
@@ -22,7 +22,7 @@ const LOOSE_LINES: &[&str] = &[
     "end",
 ];
 
-/// Systems, and what remains of each.
+/// Systems, and their outlooks after services fail.
 static ROWS: [Row; 9] = [
     (
         "lamp",

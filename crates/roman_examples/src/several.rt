@@ -19,8 +19,8 @@ const SEVENTEEN_ACTIONS: &[Part] = &[
 /// A further step of a target with one state.
 const NEXT_STEP: &str = r#",["s",true,"a#","s"]"#;
 
-/// A document whose first target has steps on the actions up to the given one, and whose second target has
-/// steps on sixteen actions.
+/// A document whose first target has steps on the actions up to the given one, and whose second
+/// target has steps on sixteen actions.
 macro_rules! many_actions {
     ($last:expr) => {
         document!(
@@ -143,7 +143,8 @@ static ROWS: [Row; 14] = [
     ),
 ];
 
-/// Documents whose combined states or actions are too many, too long or alike, or just few and short enough.
+/// Documents whose combined states or actions are too many, too long or alike, or still few and
+/// short enough.
 static COMBINATIONS: [Row; 11] = [
     (
         "sixty-five combined states",

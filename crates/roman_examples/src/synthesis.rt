@@ -180,7 +180,7 @@ static ROWS: [Row; 15] = [
     ),
 ];
 
-/// Words that aren't a command, and parts in files.
+/// Words that form no command, and documents with parts in files.
 static COMMANDS: [Command; 4] = [
     (
         "no system",

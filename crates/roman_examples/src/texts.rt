@@ -1,5 +1,5 @@
-//! The texts of the examples. A document is made of its parts, so that an example says only what differs
-//! from LAMP, or from another document with a name.
+//! The texts of the examples. A document is made of parts. So an example gives only the parts in
+//! which it differs from LAMP, or from another document with a name.
 use std::alloc::{AllocError, Global};
 
 /// A text on the shelf.
@@ -235,7 +235,7 @@ pub(crate) const WITH_X: Document = Document {
     ..LAMP
 };
 
-/// The same in version 2, with its second service loose and in that state.
+/// WITH_X in version 2, with its second service loose, in the state that isn't final.
 pub(crate) const LOOSE: Document = Document {
     version: "2",
     services: &[
@@ -245,7 +245,7 @@ pub(crate) const LOOSE: Document = Document {
     ..WITH_X
 };
 
-/// The same, with its second service frozen too.
+/// LOOSE with its second service frozen too.
 pub(crate) const FROZEN_AND_LOOSE: Document = Document {
     services: &[
         Is(SERVICE),
@@ -254,7 +254,7 @@ pub(crate) const FROZEN_AND_LOOSE: Document = Document {
     ..LOOSE
 };
 
-/// The same, with a number for `rests`.
+/// LOOSE with a number for `rests`.
 pub(crate) const RESTS_ONE: Document = Document {
     services: &[
         Is(SERVICE),
@@ -281,8 +281,8 @@ pub(crate) const SPARE: Document = Document {
     ..LAMP
 };
 
-/// Fourteen services of two states, and a target that requests nothing. Of the pairs with the target
-/// state `a` 16,384 are related, and of those with `b`, which is final, none.
+/// Fourteen services of two states, and a target that requests nothing. With the target state `a`
+/// 16,384 pairs are related. With the state `b`, which is final, no pair is related.
 pub(crate) const MANY: Document = Document {
     environment: &[Is(r#"{"states":["e"],"start":"e","actions":["on"],"steps":[]}"#)],
     behaviours: &[Is(r#"{"name":"two","states":["s","t"],"start":"s","final":[],"steps":[]}"#)],
@@ -305,7 +305,6 @@ impl Text {
 }
 
 impl Document {
-    /// Returns the bytes of the document.
     fn bytes(self, alloc: Global) -> Result<Vec<u8>, AllocError> {
         let mut text = Vec::new(alloc);
         push(alloc, &mut text, &[Is(r#"{"roman":"#), Is(self.version)])?;
@@ -332,7 +331,6 @@ impl Document {
     }
 }
 
-/// Appends parts to a text.
 fn push(alloc: Global, text: &mut Vec<u8>, parts: &[Part]) -> Result<(), AllocError> {
     for part in parts {
         match *part {

@@ -2,7 +2,7 @@
 
 -- Steps lead from well-formed situations to well-formed ones.
 pub use Rattle.roman_hearing.proofs.KnownLemmas.{steps_known}
--- Steps leave all parts but the services, and what follows from the conditions of a step.
+-- Steps change only the services, and consequences of the conditions of a step.
 pub use Rattle.roman_hearing.proofs.KeepLemmas.{line_keeps, needs_elim, unless_elim}
 -- Each step is a turn, and open requests can be served.
 pub use Rattle.roman_hearing.proofs.TurnLemmas.{open_great, steps_turns}

@@ -1,4 +1,4 @@
--- What the proof pages of this crate cite from elsewhere, passed on from one place. Declares nothing.
+-- Re-exports the names that the proof pages of this crate use from other crates. Declares nothing.
 pub use Rattle.std.proofs.Common.{All, Bool, Err, IfOk, IfSome, IsErrOf, IsFalse, IsTrue, List, None, Ok, OnOk, Option, Result, Some, [], ap, append-nil, append_assoc, ap₂, arith, codes, cond, drop, eq-eqb, eqb-true, false, if◌then◌else◌, inl, inr, le-leb, length, length-append, length-take, length-take-le, ltb, ltb-false, ltb-true, map, min, nat_le, nat_lt, not, refl, rules, slice_get, slice_set, subst, suc, sym, take, take-append-drop, take_at, true, zero, ℕ, ◌&&◌, ◌++◌, ◌+◌, ◌-◌, ◌<◌, ◌==◌, ◌↔◌, ◌∙◌, ◌∷◌, ◌≡◌, ◌≤◌, ◌⊎◌}
 pub use Rattle.std.proofs.lemmas.Bool.{and_from, and_parts, both_ways, cases_lt, cond-false, cond-true, false≢true, lt-leb, not-true, or_cases, or_from, or_left, or_parts, or_right}
 pub use Rattle.std.proofs.lemmas.List.{length-map, nil_from_length, take_all, take_min}

@@ -1,4 +1,4 @@
--- Each line is read as its shape says.
+-- Each line is read as its shape states.
 use Rattle.roman_hearing.proofs.Common.{◌≡◌, ℕ, ◌≤◌, Bool, true, false, List, [], ◌∷◌, length, cond, codes, Result, Ok, Err, IsFalse, inl, nat_lt, refl, sym, ◌∙◌, subst, ltb-true, ltb-false, arith, bytes_eq, false≢true, both_ways, cond-true, cond-false, by_test, LineShape, nothing, join, shape_of, words_of, is_comment, by_words, shape_of_words, spelling, LineError, strip_carriage_return, Form, Reads, LinesAreRead}
 use Rattle.roman_text.specs.declared.errors.LineError.TheVariants.{TooLong}
 

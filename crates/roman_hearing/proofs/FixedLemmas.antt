@@ -1,4 +1,4 @@
--- What a report says of a state fixes its bytes.
+-- The meaning of a report fixes its bytes.
 use Rattle.roman_hearing.proofs.Common.{◌≡◌, ◌≤◌, ℕ, List, [], ◌∷◌, ◌++◌, map, length, ◌↔◌, inl, inr, refl, subst, arith, IsIn, below, HasNoRepeats, IsSublist, Sys, Pair, seat_name, name_at, State, Counts, flat_map, HasNoRepeats-below, flat_map_same_in, no_longer, same_test, sublist_in, ReportLine, ReportsAreFixed, AreServing}
 use Rattle.roman_text.specs.declared.report.ReportLine.TheVariants as line
 

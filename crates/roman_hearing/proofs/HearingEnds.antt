@@ -14,7 +14,7 @@ short_out session few = or_left (nat_le (length session) MAX_SESSION_BYTES) (has
 quit_out : (heard rest : List ℕ) → length heard ≤ MAX_SESSION_BYTES → IsTrue (has_quit (ended_lines heard)) → IsTrue (is_heard_out (heard ++ rest))
 quit_out heard rest few quit = grind (arith, (ended_more heard (take (MAX_SESSION_BYTES - length heard) rest)), or_right, (take_past MAX_SESSION_BYTES heard rest few), quit_left)
 
--- the answered lines begin with the whole lines of first bytes within the limit
+-- the answered lines include the whole lines of a prefix within the limit
 heard_more : (heard rest : List ℕ) → length heard ≤ MAX_SESSION_BYTES → (more : List (List ℕ)) × (heard_lines (heard ++ rest) ≡ ended_lines heard ++ more)
 heard_more heard rest few =
     by_test (is_heard_out (heard ++ rest)) (λ out.
@@ -27,7 +27,7 @@ heard_more heard rest few =
     let first = cond-false (is_heard_out (heard ++ rest)) (lines (heard ++ rest)) (ended_lines (prefix_of (heard ++ rest))) long in
     grind (arith, (take_past MAX_SESSION_BYTES heard rest few)))
 
--- how a session ends without a fault of the source
+-- the endings of a session without a fault of the source
 pub record Ends (old new : StreamState) (r : Result (Unit {0}) HearError) : Type 0 where
   pub ok : OnOk r (IsHeardOut old new.cursor)
   pub too_long : IsErrOf r TooLong → IsCutOff old new.cursor
@@ -44,7 +44,7 @@ gave_pieces before mid now taken into room n first second fits few = gave_at_mos
 
 module _ (old new : StreamState) (mid : Option (List ℕ)) (taken : List ℕ) (n : ℕ) (into : List ℕ) (first : Gave old.rest mid taken) (second : Gave mid new.rest (take n into)) (ends : EndsAt mid n) (none : n ≡ 0)
     (few : length taken ≤ MAX_SESSION_BYTES) where
-  -- all lines are answered
+  -- all lines are answered at the end of the source
   out_at_end : (r : Result (Unit {0}) HearError) → HearsRest old.cursor taken new.cursor r → OnOk r (IsHeardOut old new.cursor)
   out_at_end (Ok x) tells = grind (arith, (had_all old.rest mid taken n first ends none), short_out)
   out_at_end (Err error) h = tt
@@ -63,7 +63,7 @@ module _ (old new : StreamState) (mid : Option (List ℕ)) (taken : List ℕ) (n
       let got : take n into ≡ [] = ap (λ (n : ℕ). take n into) none in
       grind (arith, (Gave-then old.rest mid new.rest taken (take n into) first second), (had_all old.rest mid taken n first ends none))
 
-  -- all results of the last line
+  -- the endings after the last line
   pub rest_ends : (r : Result (Unit {0}) HearError) → HearsRest old.cursor taken new.cursor r → Ends old new r
   rest_ends r h =
       let at : (error : HearError) → IsErrOf r error → HearsRest old.cursor taken new.cursor (Err error) = λ error is. subst (HearsRest old.cursor taken new.cursor) is h in
@@ -87,7 +87,7 @@ whole_lines bytes =
 
 -- ---- within a piece
 
--- the bytes up to a newline
+-- the bytes up to a newline, and the bytes after it
 quit_split : (taken part heard past : List ℕ) → part ≡ heard ++ 10 ∷ past → taken ++ part ≡ (taken ++ heard ++ 10 ∷ []) ++ past
 quit_split taken part heard past e = ap (λ (part : List ℕ). taken ++ part) e ∙ sym (append_assoc taken heard (10 ∷ past)) ∙ sym (append_assoc (taken ++ heard) (10 ∷ []) past)
 
@@ -96,21 +96,21 @@ told_all : (old new : Situation) (heard rest text : List ℕ) → IsTrue (has_qu
 told_all old new heard rest text quit told = grind (arith, (ended_more heard rest), (lines_more (heard ++ rest)), append_assoc, told_stops)
 
 module _ (old new : StreamState) (mid : Option (List ℕ)) (taken got : List ℕ) (room : ℕ) (first : Gave old.rest mid taken) (second : Gave mid new.rest got) (fits : room + length taken ≡ MAX_SESSION_BYTES) where
-  -- the bytes that were taken, up to the limit and past it
+  -- the taken bytes up to the limit, and those past it
   whole_part : (after : List ℕ) → (taken ++ got) ++ after ≡ (taken ++ take room got) ++ (drop room got ++ after)
   whole_part after = grind (arith, (take-append-drop room got), (append_assoc taken (take room got) (drop room got)), (append_assoc (taken ++ take room got) (drop room got) after))
 
   part_fits : length (taken ++ take room got) ≤ MAX_SESSION_BYTES
   part_fits = omega (arith, length-append taken (take room got), length-take room got)
 
-  -- the bytes that follow a prefix of these
+  -- the taken bytes after a prefix of them
   part_split : (after heard past : List ℕ) → taken ++ take room got ≡ heard ++ past → (taken ++ got) ++ after ≡ heard ++ (past ++ (drop room got ++ after))
   part_split after heard past split = whole_part after ∙ ap (λ (bytes : List ℕ). bytes ++ (drop room got ++ after)) split ∙ append_assoc heard past (drop room got ++ after)
 
   had_after : (after : List ℕ) × Had old.rest ((taken ++ got) ++ after)
   had_after = had_more old.rest new.rest (taken ++ got) (Gave-then old.rest mid new.rest taken got first second)
 
-  -- a line `quit` ends in the piece
+  -- a session with a line `quit` that ends in the piece is heard out
   pub out_at_quit : StopsAtQuit old.cursor taken (take room got) new.cursor [] → IsHeardOut old new.cursor
   out_at_quit stops =
       let (after, had) = had_after in
@@ -122,7 +122,7 @@ module _ (old new : StreamState) (mid : Option (List ℕ)) (taken got : List ℕ
       let whole = whole_told old.cursor new.cursor (ended_lines heard) stops.tells in
       grind (arith, (quit_out heard rest few stops.quit), (told_all old.cursor.situation new.cursor.situation heard rest whole.text stops.quit whole.told))
 
-  -- less than a piece follows its newline
+  -- less than a piece was taken past the newline of the `quit`
   pub gave_quit : (most : ℕ) → length got ≤ most + 1 → StopsAtQuit old.cursor taken (take room got) new.cursor [] → GaveQuit most old.rest new.rest
   gave_quit most l stops =
       let past = stops.past ++ drop room got in
@@ -131,7 +131,7 @@ module _ (old new : StreamState) (mid : Option (List ℕ)) (taken got : List ℕ
       let gave = Gave-then old.rest mid new.rest taken got first second in
       grind (arith, (length-append taken got), (length-append taken stops.heard), (length-append heard (10 ∷ past)))
 
-  -- the piece has more bytes than `room`
+  -- the session is too long if the piece has more bytes than `room`
   cut_off : (held : List ℕ) → IsHearing old.cursor (taken ++ take room got) (reader_state new.cursor.situation new.cursor.written [] held) → room < length got → IsCutOff old new.cursor
   cut_off held hearing more =
       let (after, had) = had_after in
@@ -171,7 +171,7 @@ module _ (old new : StreamState) (mid : Option (List ℕ)) (taken got : List ℕ
         tells = grind (arith, (WrotePrefix-append old.cursor.written new.cursor.written fails.fails.tells.text text fails.fails.tells.wrote));
       }
 
-  -- all errors of a piece
+  -- the endings after the errors of a piece
   pub piece_ends : (held : List ℕ) (error : HearError) → HearsPiece room old.cursor taken got (reader_state new.cursor.situation new.cursor.written [] held) (Err error) → Ends old new (Err error)
   piece_ends held error h =
       let at : (other : HearError) → error ≡ other → HearsPiece room old.cursor taken got (reader_state new.cursor.situation new.cursor.written [] held) (Err other) = grind arith in

@@ -7,7 +7,7 @@ use Rattle.roman_hearing.proofs.ChangeLemmas.{CanMake, changes_can, joins_can, s
 use Rattle.roman_hearing.proofs.KnownLemmas.{situation_of, steps_known}
 use Rattle.roman_hearing.proofs.WithinLemmas.{behaviour_within, new_state_within, seat_within}
 
--- ---- conditions are decided
+-- ---- conditions can be decided
 
 -- the condition holds, or it doesn't
 abbrev Decided : Type 0 → Type 0
@@ -55,13 +55,13 @@ by_name names name = elim (by_place names name) [ inl (i, there) ↦ inl (get_in
 by_ready : (s : Situation) (k : ℕ) → k < length s.parts.seats → Decided (IsReady (shown s) k)
 by_ready s k l = let (seat, seated) = there_is s.parts.seats k l in by_tests (not seat.frozen) (ready_tests s.parts s k seat refl seated)
 
--- ---- outcomes that are observed
+-- ---- observed outcomes
 
--- an outcome shows that the states can be observed
+-- the outcome has these states of the environment and the services
 shows : ℕ → List ℕ → Pair → Bool
 shows e bs q = (q.e == e) && same_numbers q.bs bs
 
--- some system step leads to the states, and a target step beside it, or no system step does
+-- some system step leads to the states, together with a target step, or no system step does
 by_outcome : (s : Situation) (a k e : ℕ) (bs : List ℕ) → IsSituation s → IsTrue (is_allowed (present_system s) s.here a) →
     ((t : ℕ) × TStep (present_system s) s.here.t s.here.e a t e × SStep (present_system s) s.here.bs s.here.e a k bs e) ⊎ (SStep (present_system s) s.here.bs s.here.e a k bs e → ⊥)
 unfolding shows
@@ -118,7 +118,7 @@ made_there s change next is can =
 
 -- ---- any line
 
--- an answer of which something holds
+-- an answer for which the property holds
 record Answered (Holds : List ℕ → Situation → Type 0) : Type 0 where
   text : List ℕ
   new : Situation
@@ -131,7 +131,7 @@ module _ (s : Situation) (known : IsKnownSituation s) where
   leads : {Holds : List ℕ → Situation → Type 0} (text : List ℕ) (new : Situation) → Holds text new → Answered Holds
   leads text new holds = record { text = text; new = new; holds = holds }
 
-  -- a condition is decided: it holds and the rest follows, or the event is refused
+  -- either the condition holds and the rest follows, or the event is refused
   needs : {H : Type 0} {Then : H → List ℕ → Situation → Type 0} {Left : List ℕ → Situation → Type 0} (r : Reply) → Left (reply_text r) s → Decided H → ((h : H) → Answered (λ text new. Then h text new × Left text new)) →
       Answered (λ text new. Needs H (Refuses (shown s) text (shown new) r) (λ h. Then h text new) × Left text new)
   needs r left (inl holds) go = let x = go holds in leads x.text x.new (inl (holds, x.holds.0), x.holds.1)
@@ -145,7 +145,7 @@ module _ (s : Situation) (known : IsKnownSituation s) where
   great : Decided (IsGreat (shown s))
   great = by_tests (is_related (present_system s) s.here) (great_tests s is)
 
-  -- a service changes
+  -- the answer to a change of a service
   changes : (change : ServiceChange) (service : List ℕ) (k : ℕ) → IsAt s service k →
       let next = with_services (shown s) (services_after change s.parts.seats k) (states_after change s.here.bs k) in
       Answered (λ text new. (CountsLost next text × (shown new ≡ next)) × RepairsList s service (change_at change) text new)

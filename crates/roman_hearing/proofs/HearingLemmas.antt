@@ -4,17 +4,17 @@ use Rattle.roman_hearing.proofs.HearingLines.{quit_last, quitless_last, told_pus
 
 -- ---- one line
 
--- a line is answered by its shape
+-- a line with the same shape has the same step
 step_alike : (old new : Situation) (line held text : List ℕ) → shape_of held ≡ shape_of line → Step old held text new → Step old line text new
 unfolding Step
 step_alike old new line held text same step = rw (sym same) step
 
--- a truncated line gets the same answer
+-- a line with the same shape has the same answer
 pub answered_on_alike : {T E : Type 0} (old new : Situation) (line held : List ℕ) (before now : Option (List ℕ)) (page holds : List ℕ) (result : Result T E) → shape_of held ≡ shape_of line →
     AnsweredOn old held new before now page holds result → AnsweredOn old line new before now page holds result
 answered_on_alike old new line held before now page holds result same answered = grind (arith, step_alike)
 
--- the session goes on after a line that isn't `quit`
+-- the session continues after a line that isn't `quit`
 next_more : (line : List ℕ) → More ≡ next_of line → IsFalse (ends_session line)
 next_more line e = grind (arith, by_test, cond-true)
 
@@ -23,12 +23,12 @@ next_quit line e = grind (arith, by_test, cond-false)
 
 -- ---- the reply to one more line
 
--- the reply is pushed on the page
+-- the reply to one more line is pushed on the page
 answered_more : (old : Cursor) (mid new : Situation) (ls : List (List ℕ)) (line : List ℕ) (wrote now : Option (List ℕ)) (page holds : List ℕ) (next : Next) → IsFalse (has_quit ls) →
     TellsOnPage old ls (cursor mid wrote) page → AnsweredOn {E = Failed} mid line new wrote now page holds (Ok next) → TellsOnPage old (ls ++ line ∷ []) (cursor new now) holds
 answered_more old mid new ls line wrote now page holds next quitless tells answered = grind (arith, Gathered-then, told_push)
 
--- the reply isn't pushed whole
+-- the reply to one more line isn't pushed whole
 answered_short : (old : Cursor) (mid new : Situation) (ls : List (List ℕ)) (line : List ℕ) (wrote now : Option (List ℕ)) (page holds : List ℕ) (failed : Failed) → IsFalse (has_quit ls) →
     TellsOnPage old ls (cursor mid wrote) page → AnsweredOn {T = Next} mid line new wrote now page holds (Err failed) → IsSituation new → FallsShort old (ls ++ line ∷ []) (cursor new now)
 answered_short old mid new ls line wrote now page holds failed quitless tells answered known =
@@ -36,11 +36,11 @@ answered_short old mid new ls line wrote now page holds failed quitless tells an
     let prefix = WrotePrefix-gathered old.written wrote now page tells.text answered.text tells.gathered answered.gathers.0 in
     record { tells = record { text = tells.text ++ answered.text; told = told; wrote = prefix }; known = known }
 
--- all was written if the page holds nothing
+-- if the page holds nothing, all replies are written
 pub whole_told : (old new : Cursor) (ls : List (List ℕ)) → TellsOnPage old ls new [] → Tells old ls new
 whole_told old new ls tells = grind (arith, append-nil)
 
--- the page is flushed
+-- flushing the page writes all replies
 put_whole : (old : Cursor) (mid : Situation) (wrote now : Option (List ℕ)) (ls : List (List ℕ)) (page : List ℕ) → TellsOnPage old ls (cursor mid wrote) page → Wrote wrote now page → TellsOnPage old ls (cursor mid now) []
 put_whole old mid wrote now ls page tells put = grind (arith, Gathered-put, Wrote-then)
 
@@ -49,31 +49,31 @@ put_prefix old mid wrote now ls page tells prefix = grind (arith, WrotePrefix-af
 
 -- ---- a part of a line
 
--- before the first byte
+-- the reader state before the first byte
 pub hearing_starts : (s : Situation) (told : Option (List ℕ)) (page held : List ℕ) → page ≡ [] → held ≡ [] → IsHearing (cursor s told) [] (reader_state s told page held)
 hearing_starts s told page held none empty = grind (arith, Gathered-empty, kept-nil, unfinished-nil)
 
 module _ (old : Cursor) (taken : List ℕ) (mid : ReaderState) (part : List ℕ) (is : IsHearing old taken mid) (within : IsLine part) where
-  -- what is held of a line decides what is held after more bytes
+  -- the held bytes of a line and more bytes decide the new held bytes
   part_kept : kept (mid.held ++ part) ≡ kept (unfinished taken ++ part)
   part_kept = ap (λ (held : List ℕ). kept (held ++ part)) is.rest ∙ kept-append (unfinished taken) part
 
-  -- no bytes of the line are held before these
+  -- if no bytes are held, the new bytes begin the line
   pub alone_kept : nat_lt 0 (length mid.held) ≡ false → (mid.held ≡ []) × (kept part ≡ kept (unfinished taken ++ part))
   alone_kept none = grind (arith, nil_from_length, part_kept)
 
-  -- these bytes are held too
+  -- the held bytes with the new ones are those of the line so far
   pub more_kept : (line : List ℕ) → line ≡ kept (mid.held ++ part) → kept line ≡ kept (unfinished taken ++ part)
   more_kept line e = kept-again line (unfinished taken ++ part) (e ∙ part_kept)
 
-  -- bytes within a line
+  -- the reader state after more bytes of a line
   pub hears_part : (after : List ℕ) → after ≡ kept (mid.held ++ part) → IsHearing old (taken ++ part) (record mid { held = after })
   hears_part after e = grind (arith, ended_lines-part, part_kept, unfinished-part)
 
   ended : ended_lines (taken ++ part ++ 10 ∷ []) ≡ ended_lines taken ++ (unfinished taken ++ part) ∷ []
   ended = ended_lines-newline (taken ++ part) 10 refl ∙ ap₂ (λ (ls : List (List ℕ)) (line : List ℕ). ls ++ line ∷ []) (ended_lines-part taken part within) (unfinished-part taken part within)
 
-  -- the last bytes of a line and its newline
+  -- the reader state after the last bytes of a line and its newline
   pub hears_ended : (new : Situation) (now : Option (List ℕ)) (holds after : List ℕ) (result : Result Next Failed) → after ≡ [] →
       AnsweredOn mid.cursor.situation (unfinished taken ++ part) new mid.cursor.written now mid.page holds result → IfOk result (λ next. next ≡ next_of (unfinished taken ++ part)) → IsSituation new →
       HearsBytes old taken (part ++ 10 ∷ []) (reader_state new now holds after) result
@@ -101,7 +101,7 @@ module _ (old : Cursor) (taken : List ℕ) (mid : ReaderState) (part : List ℕ)
 -- ---- bytes after bytes
 
 module _ (old : Cursor) (taken done part back bytes : List ℕ) (new : Cursor) (split : bytes ≡ done ++ (part ++ back)) where
-  -- a part of the bytes ends a line `quit`
+  -- a line `quit` that ends in a part of the bytes ends in the bytes
   pub stops_within : (page : List ℕ) → StopsAtQuit old (taken ++ done) part new page → StopsAtQuit old taken bytes new page
   stops_within page stops =
       grind (arith, (append_assoc stops.heard (10 ∷ stops.past) back), (append_assoc done stops.heard (10 ∷ (stops.past ++ back))), (append_assoc taken done stops.heard))
@@ -112,7 +112,7 @@ module _ (old : Cursor) (taken done part back bytes : List ℕ) (new : Cursor) (
 
 -- ---- the last line
 
--- no bytes of the last line are held
+-- if no bytes of the last line are held, all lines are answered
 pub hears_no_rest : (old : Cursor) (taken : List ℕ) (mid : ReaderState) → IsHearing old taken mid → mid.page ≡ [] → nat_lt 0 (length mid.held) ≡ false → Tells old (lines taken) mid.cursor
 hears_no_rest old taken mid is empty none = grind (arith, lines_none, whole_told)
 
@@ -138,11 +138,11 @@ module _ (old : Cursor) (taken : List ℕ) (mid : ReaderState) (is : IsHearing o
 -- ---- the first `room` bytes of a piece
 
 module _ (old : Cursor) (taken piece : List ℕ) (room due : ℕ) (least : due ≡ min (length piece) room) (new : Situation) (wrote now : Option (List ℕ)) (page held : List ℕ) where
-  -- the bytes that are due are the first `room` bytes
+  -- the next bytes are the first `room` bytes of the piece
   pub due_part : take due piece ≡ take room piece
   due_part = ap (λ (n : ℕ). take n piece) (let same : due ≡ min room (length piece) = omega arith in same) ∙ take_min room piece
 
-  -- the page is flushed after the bytes that are due
+  -- the reader state after flushing the page
   put_hearing : IsHearing old (taken ++ take due piece) (reader_state new wrote page held) → Wrote wrote now page → IsHearing old (taken ++ take due piece) (reader_state new now [] held)
   put_hearing is put = record { quitless = is.quitless; tells = put_whole old new wrote now _ page is.tells put; rest = is.rest }
 
@@ -155,7 +155,7 @@ module _ (old : Cursor) (taken piece : List ℕ) (room due : ℕ) (least : due �
   pub put_quit : StopsAtQuit old taken (take due piece) (cursor new wrote) page → Wrote wrote now page → HearsPiece room old taken piece (reader_state new now [] held) (Ok Quit)
   put_quit stops put = grind (arith, put_whole, due_part)
 
-  -- the flush fails
+  -- the state after a flush that fails
   pub put_failed : (next : Next) → HearsBytes old taken (take due piece) (reader_state new wrote page held) (Ok next) → WrotePrefix wrote now page → IsSituation new → FailsIn old (taken ++ take room piece) (cursor new now)
   put_failed More is prefix known = grind (arith, due_part, (append-nil (taken ++ take room piece)), (put_prefix old new wrote now (ended_lines (taken ++ take due piece)) page is.tells prefix))
   put_failed Quit stops prefix known = record {

@@ -3,7 +3,7 @@ use Rattle.roman_hearing.proofs.Common.{◌≡◌, ℕ, false, List, [], ◌∷�
 
 -- ---- lines of bytes with more bytes after them
 
--- more bytes after some bytes keep the whole lines of these
+-- the whole lines of some bytes stay whole if more bytes follow
 pub ended_more : (xs ys : List ℕ) → (more : List (List ℕ)) × (ended_lines (xs ++ ys) ≡ ended_lines xs ++ more)
 ended_more xs ys = (ended_lines (unfinished xs ++ ys), ended_lines-append xs ys)
 
@@ -27,17 +27,17 @@ quit_last ls line h = list_any-append ends_session ls (line ∷ []) ∙ or_right
 pub quitless_last : (ls : List (List ℕ)) (line : List ℕ) → IsFalse (has_quit ls) → IsFalse (ends_session line) → IsFalse (has_quit (ls ++ line ∷ []))
 quitless_last ls line h i = quitless_both ls (line ∷ []) h (or_from (ends_session line) false i refl)
 
--- more lines are answered after lines none of which ends the session
+-- after lines that don't end the session, the next lines are answered up to their first `quit`
 goes_on : (ls ms : List (List ℕ)) → IsFalse (has_quit ls) → until_quit (ls ++ ms) ≡ ls ++ until_quit ms
 goes_on [] ms h = refl
 goes_on (line ∷ ls) ms h = grind (arith, or_parts, cond-false, (goes_on ls ms))
 
--- no more lines are answered after lines one of which ends the session
+-- after a line that ends the session, no more lines are answered
 stops : (ls ms : List (List ℕ)) → IsTrue (has_quit ls) → until_quit (ls ++ ms) ≡ until_quit ls
 stops [] ms h = absurd (let e : ⊥ = cc in e)
 stops (line ∷ ls) ms h = grind (arith, by_test, cond-true, cond-false, (stops ls ms))
 
--- the lines that are read are answered up to the first `quit`
+-- the answered lines are those up to the first `quit`
 pub answered_heard : (session : List ℕ) →
     until_quit (heard_lines session) ≡ until_quit (if nat_le (length session) MAX_SESSION_BYTES then lines session else ended_lines (take MAX_SESSION_BYTES session))
 answered_heard session =
@@ -58,7 +58,7 @@ all_lines ls h = ap until_quit (sym (append-nil ls)) ∙ goes_on ls [] h ∙ app
 
 -- ---- replies
 
--- the replies to some lines and then to others
+-- the replies to some lines, followed by the replies to others
 answers_then : (old mid new : Situation) (ls ms : List (List ℕ)) (text more : List ℕ) → Answers old ls text mid → Answers mid ms more new → Answers old (ls ++ ms) (text ++ more) new
 answers_then old mid new [] ms text more (none, same) rest = grind arith
 answers_then old mid new (line ∷ ls) ms text more (said, later, next, split, step, answers) rest = grind (arith, append_assoc, (answers_then next mid new ls ms later more answers rest))

@@ -1,4 +1,4 @@
--- The replies to some lines can always be continued.
+-- Replies to some lines can always be continued by replies to more lines.
 use Rattle.roman_hearing.proofs.Common.{Answers, AreNamed, IsKnownSituation, IsSituation, List, Situation, Told, [], append-nil, by_test, has_quit, refl, subst, sym, until_quit, ℕ, ◌++◌, ◌∷◌}
 use Rattle.roman_hearing.proofs.HearingGoing.{step_there}
 use Rattle.roman_hearing.proofs.HearingLines.{told_stops, told_then}
@@ -12,7 +12,7 @@ answers_there s (line ∷ ls) is =
     let (more, new, answers) = answers_there first.new ls first.known in
     (first.text ++ more, new, (first.text, more, first.new, refl, first.step, answers))
 
--- the replies to some lines can be followed by the replies to more
+-- replies to some lines can be followed by replies to more
 pub told_more : (old mid : Situation) (ls ms : List (List ℕ)) (text : List ℕ) → AreNamed old.parts → IsSituation mid → Told old ls text mid →
     (more : List ℕ) × (last : Situation) × Told old (ls ++ ms) (text ++ more) last
 told_more old mid ls ms text named known told =

@@ -1,15 +1,15 @@
--- Steps of a session change no parts but the services.
+-- Steps of a session change only the services.
 use Rattle.roman_hearing.proofs.Common.{Answers, AreNamed, Err, LineError, LineShape, List, Needs, Ok, Result, Situation, State, Step, TurnsInto, Unless, [], abort, arith, delegate, die, explain, freeze, inl, inr, join, jump, jump_env, nothing, observe, quit, refl, report, request, shape_of, shown, subst, sym, thaw, ℕ, ◌∷◌, ◌≡◌}
 
 -- all parts but the services stay the same
 abbrev pub Keeps : Situation → Situation → Type 0
 Keeps old new = new.parts ≡ record old.parts { seats = new.parts.seats }
 
--- a situation that equals one with the same parts has these parts too
+-- equal situations have the same parts
 keeps_by : (old new other : Situation) → new ≡ other → Keeps old other → Keeps old new
 keeps_by old new other same keeps = subst (Keeps old) (sym same) keeps
 
--- what follows if the conditions hold, and if one doesn't
+-- a consequence of both cases of `Needs`
 pub needs_elim : {H R P : Type 0} {T : H → Type 0} → (R → P) → ((h : H) → T h → P) → Needs H R T → P
 needs_elim f g (inl (h, then)) = g h then
 needs_elim f g (inr (never, refused)) = f refused
@@ -19,15 +19,15 @@ unless_elim f g (inl (holds, refused)) = f refused
 unless_elim f g (inr (never, then)) = g never then
 
 module _ (s new : State) (text : List ℕ) where
-  -- a turn to a state with the same parts keeps them
+  -- a turn to a state with the same parts keeps the parts
   leads : (next : State) → next.parts ≡ record s.parts { seats = next.parts.seats } → new ≡ next → new.parts ≡ record s.parts { seats = new.parts.seats }
   leads next keeps same = subst (λ (t : State). t.parts ≡ record s.parts { seats = t.parts.seats }) (sym same) keeps
 
-  -- so does a refusal
+  -- a refusal keeps the parts
   stays : {Said : Type 0} → Said × (new ≡ s) → new.parts ≡ record s.parts { seats = new.parts.seats }
   stays (says, same) = leads s refl same
 
-  -- no turn changes these parts
+  -- every turn keeps all parts but the services
   turn_keeps : (event : Result LineShape LineError) → TurnsInto s event text new → new.parts ≡ record s.parts { seats = new.parts.seats }
   turn_keeps (Err why) turn = stays turn
   turn_keeps (Ok nothing) (says, same) = leads s refl same
@@ -49,12 +49,12 @@ module _ (s new : State) (text : List ℕ) where
   turn_keeps (Ok explain) turn = unless_elim stays (λ lost (says, same). leads s refl same) turn
   turn_keeps (Ok quit) (says, same) = leads s refl same
 
--- no line changes these parts
+-- every line keeps all parts but the services
 pub line_keeps : (old new : Situation) (line text : List ℕ) → Step old line text new → Keeps old new
 unfolding Step
 line_keeps old new line text step = turn_keeps (shown old) (shown new) text (shape_of line) step.0
 
--- no list of lines changes these parts
+-- every list of lines keeps all parts but the services
 pub answers_keep : (old new : Situation) (ls : List (List ℕ)) (text : List ℕ) → Answers old ls text new → Keeps old new
 answers_keep old new [] text (none, same) = keeps_by old new old same refl
 answers_keep old new (line ∷ ls) text (said, more, mid, split, step, answers) = grind (arith, line_keeps, (answers_keep mid new ls more answers))

@@ -5,7 +5,7 @@ use Rattle.roman_hearing.proofs.KeepLemmas.{line_keeps, named_stay, needs_elim, 
 use Rattle.roman_hearing.proofs.ChangeLemmas.{CanMake, changes_can, joins_can, seat_there}
 use Rattle.roman_hearing.proofs.WithinLemmas.{behaviour_within, new_state_within, seat_within, state_within}
 
--- a situation from its state and its list
+-- the situation with this state and this list
 abbrev pub situation_of : State → List (Entry Pair) → Situation
 situation_of s list = record { parts = s.parts; here = s.here; phase = s.phase; list = list }
 
@@ -13,7 +13,7 @@ module _ (old new : Situation) (text : List ℕ) (known : IsKnownSituation old) 
   abbrev is : IsSituation old
   is = known.situation
 
-  -- the new situation is well formed by its state and its list
+  -- the new situation is well formed if its state and its list are
   goes : (next : State) → shown new ≡ next → IsComplete (system_of next.parts) new.list → IsNamedSys next.parts → IsPair (system_of next.parts) next.here → IsPhase (situation_of next new.list) next.phase → IsSituation new
   goes next same list parts pair phase =
       let well : IsSituation (situation_of next new.list) = record { parts = parts; here = pair; list = list; phase = phase } in
@@ -22,7 +22,7 @@ module _ (old new : Situation) (text : List ℕ) (known : IsKnownSituation old) 
   goes_idle : (next : State) → shown new ≡ next → IsComplete (system_of next.parts) new.list → IsNamedSys next.parts → IsPair (system_of next.parts) next.here → next.phase ≡ Idle → IsSituation new
   goes_idle next same list parts pair idle = goes next same list parts pair (subst (IsPhase (situation_of next new.list)) (sym idle) tt)
 
-  -- events that leave the list
+  -- events that leave the list unchanged
 
   left : new.list ≡ old.list → IsComplete (present_system old) new.list
   left list = subst (IsComplete (present_system old)) (sym list) is.list

@@ -23,7 +23,7 @@ seats_combined env requests catalogue (seat ∷ seats) all =
     (beh_combined env requests catalogue seat.behaviour (all 0 seat (omega arith)))
     (seats_combined env requests catalogue seats (λ k d l. all (suc k) d (omega (arith, l))))
 
--- the system that parts and seats make
+-- the system with these parts and seats
 abbrev made_system : PlainCombined → List Seat → Sys
 made_system made seats = record { env = made.environment.env; target = made.target.beh; seats = map (seat_of made.catalogue) seats }
 

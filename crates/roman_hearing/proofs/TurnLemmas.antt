@@ -8,7 +8,7 @@ steps_turns old new line text step = step.0
 
 -- Services that aren't offered
 
--- a seat that is beaten has no outcome, or an outcome whose pair isn't related
+-- a beaten seat has no outcome, or an outcome whose pair isn't related
 beaten_fails : (s : Sys) (p : Pair) (a k : ℕ) → IsTrue (is_beaten (arena s) (λ q. not (is_related s q)) p a k) →
     (outcomes s p a k ≡ []) ⊎ ((q : Pair) × IsIn q (outcomes s p a k) × IsFalse (is_related s q))
 beaten_fails s p a k beaten = grind (arith, any_true, empty_is, not-true, or_cases)

@@ -1,4 +1,4 @@
--- What an event names is in range: the place of a service, a state or a behaviour.
+-- The numbers of the services, states and behaviours that an event names are in range.
 use Rattle.roman_hearing.proofs.Common.{All, All-get_or, AreBehaviours, IfSome, IsAt, IsBeh, IsBehaviour, IsSituation, List, NamedBeh, NamedEnv, Option, Situation, Some, arith, beh_at, beh_name, beh_read, get_or_from_slice_get, length, length-map, map, mapped_at, names_in, present_system, seat_name, seat_names, seat_read, slice_get, slice_get_within, states_named, states_of_behaviour, subst, sym, there_is, ℕ, ◌<◌, ◌≡◌}
 use Rattle.roman_model.specs.System.{Seat}
 
@@ -18,7 +18,7 @@ beh_within env catalogue i behaviours l =
 states_counted : (s : Situation) (i : ℕ) → AreBehaviours s.parts → i < length s.parts.catalogue → length (states_of_behaviour s.parts.catalogue i) ≡ (beh_at s.parts.catalogue i).states
 states_counted s i behaviours l = grind (arith, (placed_behaviour s.parts.environment s.parts.catalogue i behaviours l), mapped_at, beh_read)
 
--- a named state is one of the service's behaviour
+-- a named state of a service is in range
 pub state_within : (s : Situation) (k b : ℕ) (state : List ℕ) → IsSituation s → AreBehaviours s.parts → k < length s.parts.seats → slice_get (seat_names (names_in s.parts) k).states b ≡ Some state →
     IfSome (slice_get (present_system s).seats k) (λ seat. b < seat.beh.states)
 state_within s k b state is behaviours l h =
@@ -31,11 +31,11 @@ state_within s k b state is behaviours l h =
     let fits : b < (beh_at s.parts.catalogue seat.behaviour).states = omega (arith, less, count) in
     subst (λ (o : Option Seat). IfSome o (λ seat. b < seat.beh.states)) (sym (seat_read s.parts k seat seated)) fits
 
--- a named behaviour is one of the catalogue
+-- a named behaviour is in the catalogue
 pub behaviour_within : (s : Situation) (i : ℕ) (behaviour : List ℕ) → slice_get (map beh_name s.parts.catalogue) i ≡ Some behaviour → i < length s.parts.catalogue
 behaviour_within s i behaviour at = omega (arith, slice_get_within (map beh_name s.parts.catalogue) i behaviour at, length-map s.parts.catalogue beh_name)
 
--- a named state is one of the behaviour
+-- a named state of a behaviour is in range
 pub new_state_within : (s : Situation) (i b : ℕ) (state : List ℕ) → AreBehaviours s.parts → i < length s.parts.catalogue → slice_get (states_of_behaviour s.parts.catalogue i) b ≡ Some state →
     b < (beh_at s.parts.catalogue i).states
 new_state_within s i b state behaviours l at = omega (arith, slice_get_within (states_of_behaviour s.parts.catalogue i) b state at, states_counted s i behaviours l)

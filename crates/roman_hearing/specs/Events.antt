@@ -18,6 +18,6 @@ Reads line (Err why) =
 Reads line (Ok nothing) = (length line ≤ 256) × ((words_of (strip_carriage_return line) ≡ []) ⊎ IsComment (words_of (strip_carriage_return line)))
 Reads line (Ok event) = (length line ≤ 256) × (words_of (strip_carriage_return line) ≡ spelling event)
 
--- each line is read as its shape says
+-- each line is read as its shape states
 abbrev pub LinesAreRead : Type 0
 LinesAreRead = (line : List ℕ) → Reads line (shape_of line)

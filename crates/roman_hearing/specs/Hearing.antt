@@ -1,4 +1,4 @@
--- Sessions that are read from a stream: which of its lines are answered, and what is written by then.
+-- Sessions that are read from a stream: which lines are answered, and which replies are written.
 use Rattle.std.specs.Prelude.{◌≡◌, ◌≢◌, ℕ, ◌≤◌, ◌⊎◌, Bool, ◌||◌, List, [], ◌∷◌, ◌++◌, length, take, nat_le, Option, Result, Err, IsErrOf, IsTrue, IsFalse, if◌then◌else◌}
 use Rattle.std.specs.List.{list_any}
 use Rattle.roman_io.specs.Faults.{Rose}
@@ -26,11 +26,11 @@ has_quit lines = list_any ends_session lines
 abbrev pub prefix_of : List ℕ → List ℕ
 prefix_of session = take MAX_SESSION_BYTES session
 
--- the session isn't too long: it has at most 16,777,216 bytes, or a line `quit` ends within that many
+-- the session isn't too long: it has at most 16,777,216 bytes, or a line `quit` ends within that many bytes
 abbrev pub is_heard_out : List ℕ → Bool
 is_heard_out session = nat_le (length session) MAX_SESSION_BYTES || has_quit (ended_lines (prefix_of session))
 
--- the lines that are answered up to the first `quit`: all lines, or of a session that is too long those that end within the limit
+-- the answered lines, up to the first `quit`: all lines, or those that end within the limit if the session is too long
 abbrev pub heard_lines : List ℕ → List (List ℕ)
 heard_lines session = if is_heard_out session then lines session else ended_lines (prefix_of session)
 
@@ -45,21 +45,21 @@ pub record GaveQuit (most : ℕ) (before now : Option (List ℕ)) : Type 0 where
 
 -- ---- a session, its source and its sink
 
--- the situation of a session, and what was written by then, if that is known
+-- the situation of a session, and the written bytes, if the sink's type exposes them
 pub record Cursor : Type 0 where
   pub situation : Situation
   pub written : Option (List ℕ)
 
--- a cursor from its parts
+-- a cursor with these parts
 abbrev pub cursor : Situation → Option (List ℕ) → Cursor
 cursor situation written = record { situation = situation; written = written }
 
--- the situation of a session, what was written by then, and what its source has left, if these are known
+-- the situation of a session, the written bytes, and the rest of its source, if their types expose these
 pub record StreamState : Type 0 where
   pub cursor : Cursor
   pub rest : Option (List ℕ)
 
--- a stream state from its parts
+-- a stream state with these parts
 abbrev pub stream_state : Situation → Option (List ℕ) → Option (List ℕ) → StreamState
 stream_state situation rest written = record { cursor = cursor situation written; rest = rest }
 
@@ -91,7 +91,7 @@ pub record IsCutOff (old : StreamState) (new : Cursor) : Type 0 where
   pub long : IsFalse (is_heard_out session)
   pub tells : Tells old.cursor (ended_lines (prefix_of session)) new
 
--- the session would go on: the source gave bytes within the limit, and their whole lines, none of which is `quit`, are answered
+-- the session would continue: the source gave bytes within the limit, and their whole lines, without a `quit`, are answered
 pub record GoesOn (old new : StreamState) : Type 0 where
   pub taken : List ℕ
   pub gave : Gave old.rest new.rest taken

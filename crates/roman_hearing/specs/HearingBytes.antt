@@ -1,4 +1,4 @@
--- How a session is read byte by byte: what holds between two bytes of its stream.
+-- How a session is read byte by byte: the invariant between two bytes of its stream.
 use Rattle.std.specs.Prelude.{◌≡◌, ℕ, ◌<◌, ◌≤◌, List, [], ◌∷◌, ◌++◌, length, take, Option, Result, Ok, Err, IsTrue, IsFalse}
 use Rattle.roman_io.specs.declared.failed.Failed.{Failed}
 use Rattle.roman_model.specs.Lines.{lines, ended_lines}
@@ -19,7 +19,7 @@ pub record ReaderState : Type 0 where
   pub page : List ℕ
   pub held : List ℕ
 
--- reader state from its parts
+-- a reader state with these parts
 abbrev pub reader_state : Situation → Option (List ℕ) → List ℕ → List ℕ → ReaderState
 reader_state situation written page held = record { cursor = cursor situation written; page = page; held = held }
 
@@ -70,7 +70,7 @@ HearsPiece room old taken piece new (Err ReadFault) = ⊥
 HearsPiece room old taken piece new (Err WriteFault) = FailsIn old (taken ++ take room piece) new.cursor
 HearsPiece room old taken piece new (Err TooLong) = IsHearing old (taken ++ take room piece) new × (room < length piece)
 
--- a last line without a newline was answered too
+-- the last line, which has no newline, was answered
 abbrev pub HearsRest : Cursor → List ℕ → Cursor → Result (Unit {0}) HearError → Type 0
 HearsRest old taken new (Ok x) = Tells old (lines taken) new
 HearsRest old taken new (Err ReadFault) = ⊥

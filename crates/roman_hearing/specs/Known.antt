@@ -1,4 +1,4 @@
--- Well-formed situations, which a document begins and each step keeps.
+-- Well-formed situations: a document begins in one, and each step leads to another.
 use Rattle.std.specs.Prelude.{◌≡◌, List, ℕ, length, All}
 use Rattle.roman_joint.specs.NamedSys.{NamedSys}
 use Rattle.roman_parts.specs.Named.{IsBehaviour}

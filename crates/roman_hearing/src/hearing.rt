@@ -33,20 +33,20 @@ pub enum HearError {
     TooLong,
 }
 
-/// Reads the lines of a session from `source` and writes the reply to each, to the end of the source or
-/// to the first line `quit`. Takes at most 4,096 bytes at a time, and writes the replies to the lines
-/// that end in them before it takes more. The last line may lack its newline.
+/// Reads the lines of a session from `source` and writes the reply to each, to the end of the
+/// source or to the first line `quit`. Takes at most 4,096 bytes at a time, and writes the replies
+/// to the lines that end in them before it takes more. The last line may lack its newline.
 ///
-/// The source may split its bytes in any way, and may have no end: at most [`MAX_SESSION_BYTES`] bytes
-/// are read as lines. Takes no memory. Fails as [`HearError`] says. If the source's bytes aren't
-/// known, the clauses hold for some bytes that it may have had.
+/// The source may split its bytes in any way, and may have no end: at most [`MAX_SESSION_BYTES`]
+/// bytes are read as lines. Allocates no memory. [`HearError`] lists the errors. If the type of the
+/// source doesn't expose its bytes, the clauses hold for some bytes that it may have had.
 pub fn hear<S: Source, O: Sink, L: Ledger>(
     session: &mut Session,
     source: &mut S,
     out: &mut O,
     steps: &mut Steps<L>,
 ) -> Result<(), HearError>
-    // The replies to the whole session were written. For a session that is too long, the replies to
+    // The replies to the whole session were written. If the session is too long, the replies to
     // the lines that end within the limit were written.
     ensures ok { OnOk result (IsHeardOut (stream_state session.old (S.rest source.old) (O.written out.old))
         (cursor session.new (O.written out.new))) }
@@ -68,9 +68,9 @@ pub fn hear<S: Source, O: Sink, L: Ledger>(
     ensures reads { CausedBy HearError.ReadFault (S.faults source.old) (S.faults source.new) result }
     ensures writes { CausedBy HearError.WriteFault (O.faults out.old) (O.faults out.new) result }
 
-    // At most one piece more is taken than a session may have. After success no bytes are left, or
-    // less than a piece was taken past the line `quit`. A source that reads from a shelf keeps that
-    // shelf, and the shelf's texts stay the same.
+    // At most one piece is taken past the limit of a session. After success the source has no
+    // bytes left, or less than a piece was taken past the line `quit`. A source that reads from a
+    // shelf keeps that shelf, and the shelf's texts stay the same.
     ensures taken { GaveAtMost (MAX_SESSION_BYTES + PIECE_BYTES) (S.rest source.old) (S.rest source.new) }
     ensures past { OnOk result (IsAtEnd (S.rest source.new)
         ⊎ GaveQuit (PIECE_BYTES - 1) (S.rest source.old) (S.rest source.new)) }
@@ -162,8 +162,8 @@ fn hear_bytes<O: Sink, L: Ledger>(
     Ok(Next::More)
 }
 
-/// Reads the last bytes of a line and its newline. Pushes the reply to the line on the page. Copies the
-/// bytes only if others of the line are held.
+/// Reads the last bytes of a line and its newline. Pushes the reply to the line on the page. Copies
+/// the bytes only if earlier bytes of the line are held.
 fn hear_ended<O: Sink, L: Ledger>(
     session: &mut Session,
     splitter: &mut Splitter,

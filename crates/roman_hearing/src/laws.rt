@@ -16,22 +16,23 @@ pub fn outcomes_are_related()
     ensures related { OutcomesAreRelated }
 {}
 
-/// A service that isn't offered for an allowed action has no outcome, or an outcome whose pair isn't
-/// related.
+/// A service that isn't offered for an allowed action has no outcome, or an outcome whose pair
+/// isn't related.
 #[tactic(auto, using(crate::proofs::TurnLemmas::not_offered_fails))]
 pub fn services_not_offered_fail()
     ensures fails { NotOfferedFails }
 {}
 
-/// The report equals the report of a new synthesis from the present services and the present states.
+/// The report equals the report of a new synthesis from the present services and the present
+/// states.
 #[tactic(auto, using(roman_session::proofs::CallerLemmas::reports_afresh))]
 pub fn reports_are_afresh()
     ensures afresh { ReportsAreAfresh }
 {}
 
-/// What a report says fixes its bytes: two texts that report the same state are equal. So a session's
-/// report equals that of `synth` for a document whose library has the present services and begins in
-/// the present states.
+/// The meaning of a report fixes its bytes: two texts that report the same state are equal. So a
+/// session's report equals that of `synth` for a document whose library has the present services
+/// and begins in the present states.
 pub fn reports_are_fixed()
     ensures fixed { ReportsAreFixed }
 {}
@@ -52,8 +53,8 @@ pub fn lines_are_read()
 }
 
 /// Each step is a turn: it leads to the state of its event, and its text answers that event. State
-/// and text are defined in terms of the greatest ND-simulation, steps and names, without the removal
-/// list.
+/// and text are defined in terms of the greatest ND-simulation, steps and names, without the
+/// removal list.
 #[tactic(auto, using(crate::proofs::TurnLemmas::steps_turns))]
 pub fn steps_are_turns()
     ensures turns { StepsAreTurns }
@@ -65,8 +66,8 @@ pub fn open_is_great()
     ensures great { OpenIsGreat }
 {}
 
-/// In a session of a document with several targets a pair is related exactly when it belongs to some
-/// ND-simulation of all targets by the services now present.
+/// In a session of a document with several targets a pair is related exactly when it belongs to
+/// some ND-simulation of all targets by the services now present.
 pub fn several_are_served()
     ensures served { SeveralAreServed }
 {}

@@ -1,11 +1,11 @@
-//! Reads sessions line by line from a source, and states the laws that hold of every session, for any
-//! input.
+//! Reads sessions line by line from a source, and states the laws that hold of every session, for
+//! any input.
 //!
-//! `specs/Hearing` defines which lines of a stream are answered and what is written by then.
-//! `specs/Told` defines the replies to a list of lines, by the steps of `roman_session`. The laws say
-//! that each step from a well-formed situation leads to a well-formed one (`specs/Known`), and that
-//! each step is a turn of `roman_session`: it leads to the state of the line's event, and its text is
-//! right for that event, in terms of the greatest ND-simulation, steps and names.
+//! `specs/Hearing` defines which lines of a stream are answered and which replies are written.
+//! `specs/Told` defines the replies to a list of lines, by the steps of `roman_session`. The laws
+//! state that each step from a well-formed situation leads to a well-formed one (`specs/Known`),
+//! and that each step is a turn of `roman_session`: it leads to the state of the line's event, and
+//! its text is right for that event, in terms of the greatest ND-simulation, steps and names.
 #![tactic(auto)]
 
 mod hearing;

@@ -16,7 +16,7 @@ told_all (Some x) P all = all x
 
 -- ---- how a part of a run ends
 
--- a run ends with such a status only once its text was put
+-- the statuses with which a run ends only after its text was put
 abbrev pub IsSaid : Status → Type 0
 IsSaid status.Done = Unit {0}
 IsSaid status.No = Unit {0}
@@ -24,7 +24,7 @@ IsSaid status.Refused = Unit {0}
 IsSaid status.Limit = Unit {0}
 IsSaid _ = ⊥
 
--- a text was put, or a prefix of it
+-- a part of a run ends after it put a text or a prefix of it
 pub put_ends : {T E : Type 0} (IsRun : Texts → List ℕ → Status → Type 0) (told : Option Texts) (shelf : ℕ) (old new : Option (List ℕ)) (faults faults_now : ℕ) (text : List ℕ) (ends result : Status) (r : Result T E) → IsSaid ends →
     IfSome told (λ texts. IsRun texts text ends) → Puts old new text r → HasCause faults faults_now r → Finishes r ends result → Ends IsRun (outputs told shelf old faults) (outputs told shelf new faults_now) result
 put_ends IsRun told shelf old new faults faults_now text ends result (Ok x) said run puts cause finishes =
@@ -45,11 +45,11 @@ put_ends IsRun told shelf old new faults faults_now text ends result (Err e) sai
       out = cause.failed;
     })
 
--- nothing was written, out of memory
+-- a part of a run ends out of memory, and nothing was written
 pub none_ends : (IsRun : Texts → List ℕ → Status → Type 0) (now : Outputs) → Ends IsRun now now status.Memory
 none_ends IsRun now = record { writes = told_all now.texts (λ texts. Unit {0}) (λ texts. tt); stops = Wrote-nil now.written; texts = refl; shelf = refl; out = refl }
 
--- each text of the one kind of run is a text of the other kind
+-- the texts of one kind of run are texts of another kind
 pub writes_weaker : (One Other : List ℕ → Status → Type 0) (old new : Option (List ℕ)) (result : Status) → ((text : List ℕ) (ends : Status) → One text ends → Other text ends) → Writes One old new result → Writes Other old new result
 writes_weaker One Other old new status.ShelfFault weaker w = tt
 writes_weaker One Other old new status.ReadFault weaker w = tt
@@ -67,12 +67,12 @@ ends_weaker One Other old new result weaker ends = record {
   out = ends.out;
 }
 
--- what holds from the outside after an opening on holds from the one before it on
+-- a property of the state after an opening is a property of the state before it
 pub opened_from : {X : Type 0} (Holds : Texts → X → Type 0) (x : X) (old mid : Outputs) (P : Outputs → Type 0) → Opened Holds old mid x → (IfSome mid.texts (λ texts. Holds texts x) → P mid) → P old
 opened_from Holds x old mid P opened serve =
     subst P opened.same (serve (subst (λ (now : Outputs). IfSome now.texts (λ texts. Holds texts x)) (sym opened.same) opened.holds))
 
--- ---- what opening a document gives
+-- ---- results of opening a document
 
 pub opens_past : (meaning : Result PlainLibrary Refusal) (library : PlainLibrary) → meaning ≡ Ok library → IsTrue (is_past_limit library) → opening_of meaning ≡ Past library
 opens_past meaning library means past = ap opening_of means ∙ cond-true (is_past_limit library) (Past library) (Accepted library) past
@@ -89,7 +89,7 @@ pub accepted_is : (meaning : Result PlainLibrary Refusal) (library : PlainLibrar
 accepted_is (Err refusal) library h = absurd (let e : ⊥ = cc in e)
 accepted_is (Ok other) library h = grind arith
 
--- the line of a document that is turned away ends each job on it
+-- the line that turns a document away ends each job on it
 pub away_is_run : (Work : PlainLibrary → List ℕ → Status → Type 0) (opening : Opening) (text : List ℕ) (ends : Status) → OnOpening (λ library out result. ⊥) opening text ends → OnOpening Work opening text ends
 away_is_run Work (Refused refusal) text ends away = away
 away_is_run Work (Past library) text ends away = away

@@ -3,17 +3,17 @@ use Rattle.roman_opening.specs.declared.status.Status.TheVariants as status
 use Rattle.roman_opening.proofs.Common.{◌≡◌, ◌≢◌, ℕ, ◌<◌, List, Option, IfSome, Result, Ok, Err, refl, sym, ap, ◌∙◌, subst, ◌≤◌, HasCause, Rose, Texts, Wrote-nil, Puts, sizes_of, pair_at, count, numbers_are_pairs, NamedSys, system_of, cells, PlainLibrary, IsSeated, Seated, start_pair_of, IsRelation, Ends, EndsEarly, OpensDocument, MeansLibrary, TurnsAway, Accepts, IsRelated, Finishes, library_of, limit_line, library_system, Opening, OnOpening, lt-ltb, Related, outputs, Outputs, Status, IfSome_then}
 use Rattle.roman_opening.proofs.EndingLemmas.{told_all, opens_past, opens_within, IsSaid, put_ends, none_ends}
 
--- ---- nothing was opened
+-- ---- endings without a value
 
--- neither the texts nor the count of faults changed
+-- the shelf and the sink are the same if the texts and the count of faults are
 pub same_outputs : (told told_now : Option Texts) (shelf shelf_now : ℕ) (written : Option (List ℕ)) (faults : ℕ) → told_now ≡ told → shelf_now ≡ shelf → outputs told_now shelf_now written faults ≡ outputs told shelf written faults
 same_outputs told told_now shelf shelf_now written faults texts shelves = rw (texts, shelves) refl
 
--- out of memory
+-- the ending out of memory
 pub opens_none : (IsRun : Texts → List ℕ → Status → Type 0) (old mid : Outputs) → mid ≡ old → EndsEarly IsRun old mid status.Memory
 opens_none IsRun old mid same = record { ends = subst (λ (now : Outputs). Ends IsRun now mid status.Memory) same (none_ends IsRun mid); early = λ e. let h : ⊥ = cc in h }
 
--- the shelf failed
+-- the ending after a fault of the shelf
 pub opens_fault : (IsRun : Texts → List ℕ → Status → Type 0) (told told_now : Option Texts) (shelf shelf_now : ℕ) (written : Option (List ℕ)) (faults : ℕ) → told_now ≡ told → Rose shelf shelf_now →
     EndsEarly IsRun (outputs told shelf written faults) (outputs told_now shelf_now written faults) status.ShelfFault
 opens_fault IsRun told told_now shelf shelf_now written faults same rose = record {
@@ -21,7 +21,7 @@ opens_fault IsRun told told_now shelf shelf_now written faults same rose = recor
   early = λ e. let h : ⊥ = cc in h;
 }
 
--- a line was put that ends the run
+-- the ending after a line was put
 pub opens_line : {T E : Type 0} (IsRun : Texts → List ℕ → Status → Type 0) (old mid : Outputs) (new : Option (List ℕ)) (faults_now : ℕ) (text : List ℕ) (ends result : Status) (r : Result T E) → mid ≡ old → IsSaid ends → ends ≢ status.Done →
     IfSome old.texts (λ texts. IsRun texts text ends) → Puts mid.written new text r → HasCause mid.out_faults faults_now r → Finishes r ends result → EndsEarly IsRun old (outputs mid.texts mid.shelf_faults new faults_now) result
 opens_line {T} {E} IsRun old mid new faults_now text ends result r same said early run puts cause finishes = record {
@@ -34,7 +34,7 @@ opens_line {T} {E} IsRun old mid new faults_now text ends result r same said ear
     other (Ok x) finishes e = early (sym finishes ∙ e)
     other (Err e) finishes is = let h : status.WriteFault ≡ status.Done = sym finishes ∙ is in let h : ⊥ = cc in h
 
--- the line of the limit was put
+-- the ending after the line of the limit was put
 pub opens_past_limit : {T E : Type 0} (name : List ℕ) (library : PlainLibrary) (old mid : Outputs) (new : Option (List ℕ)) (faults_now : ℕ) (result : Status) (r : Result T E) → IfSome old.texts (λ texts. MeansLibrary name texts library) → mid ≡ old →
     library.limit < cells (library_system library) → Puts mid.written new (limit_line library.limit) r → HasCause mid.out_faults faults_now r → Finishes r status.Limit result →
     EndsEarly (TurnsAway name) old (outputs mid.texts mid.shelf_faults new faults_now) result
@@ -44,7 +44,7 @@ opens_past_limit name library old mid new faults_now result r means same past pu
     subst (λ (opening : Opening). OnOpening (λ other out result. ⊥) opening (limit_line library.limit) status.Limit) (sym (opens_past (library_of texts name) library is (lt-ltb library.limit (cells (library_system library)) past))) (refl, refl)))
     puts cause finishes
 
--- ---- what was opened
+-- ---- opened values
 
 -- a library within its limit is accepted
 pub opens_ok : {X : Type 0} (Holds : PlainLibrary → X → Type 0) (x : X) (name : List ℕ) (library : PlainLibrary) (old mid : Outputs) → IfSome old.texts (λ texts. MeansLibrary name texts library) → mid ≡ old →
@@ -54,11 +54,11 @@ opens_ok Holds x name library old mid means same fits holds = record {
   same = same;
 }
 
--- a library has the start pair of its seated system
+-- the start pair of a seated library is that of the library
 pub seated_start : (library : PlainLibrary) (seated : Seated) → IsSeated library seated → pair_at (sizes_of (library_system library)) seated.start ≡ start_pair_of library
 seated_start library seated is = ap (pair_at (sizes_of (library_system library))) is.start ∙ (numbers_are_pairs (library_system library)).back (start_pair_of library) is.pair
 
--- the start pair is one of the system
+-- the start pair is a pair of the system
 pub start_below : (library : PlainLibrary) (seated : Seated) (joint : NamedSys) → IsSeated library seated → joint ≡ seated.joint → seated.start < count (sizes_of (system_of joint))
 start_below library seated joint is same = subst (λ (n : NamedSys). seated.start < count (sizes_of (system_of n))) (sym (same ∙ is.parts)) is.below
 

@@ -1,4 +1,4 @@
--- Which counts of faults rose, by the status.
+-- The counts of faults that rose, by the status.
 use Rattle.std.specs.Prelude.{◌≡◌, ℕ}
 use Rattle.roman_io.specs.Faults.{Rose}
 use Rattle.roman_opening.specs.declared.status.Status.{Status}

@@ -1,4 +1,4 @@
--- How the parts of a run end: what was written by then, by the status that they return.
+-- How the parts of a run end: the status that they return, and the text that they wrote.
 use Rattle.std.specs.Prelude.{◌≡◌, ◌≢◌, ℕ, ◌<◌, List, [], Option, IfSome, Result, Ok, Err}
 use Rattle.roman_io.specs.Shelf.{Texts}
 use Rattle.roman_io.specs.Sink.{Wrote, WrotePrefix}
@@ -28,7 +28,7 @@ pub record WritesPrefix (IsRun : List ℕ → Status → Type 0) (old new : Opti
   pub run : IsRun text ends
   pub wrote : WrotePrefix old new text
 
--- the text of such a run was written, or a prefix of one if the sink failed; of other faults and running out of memory nothing is said
+-- the text of such a run was written, or a prefix of one if the sink failed; after other faults and out of memory nothing is stated
 abbrev pub Writes : (List ℕ → Status → Type 0) → Option (List ℕ) → Option (List ℕ) → Status → Type 0
 Writes IsRun old new status.ShelfFault = Unit {0}
 Writes IsRun old new status.ReadFault = Unit {0}
@@ -44,7 +44,7 @@ EndsBare old new status.ReadFault = ⊥
 EndsBare old new status.Memory = Wrote old new []
 EndsBare old new _ = Unit {0}
 
--- how a part of a run ended: what was written, and which counts of faults rose; the shelf's texts are the same
+-- how a part of a run ends: the text that it wrote, and the counts of faults that rose; the shelf's texts are the same
 pub record Ends (IsRun : Texts → List ℕ → Status → Type 0) (old new : Outputs) (result : Status) : Type 0 where
   pub writes : IfSome old.texts (λ texts. Writes (IsRun texts) old.written new.written result)
   pub stops : EndsBare old.written new.written result
@@ -52,7 +52,7 @@ pub record Ends (IsRun : Texts → List ℕ → Status → Type 0) (old new : Ou
   pub shelf : ShelfCause old.shelf_faults new.shelf_faults result
   pub out : SinkCause old.out_faults new.out_faults result
 
--- ---- what is opened
+-- ---- opened values
 
 -- the property holds of the value, for the texts of the shelf, and nothing was changed
 pub record Opened {X : Type 0} (Holds : Texts → X → Type 0) (old new : Outputs) (x : X) : Type 0 where
@@ -69,7 +69,7 @@ abbrev pub Opens : {X : Type 0} → (Texts → X → Type 0) → (Texts → List
 Opens Holds IsRun old new (Ok x) = Opened Holds old new x
 Opens Holds IsRun old new (Err result) = EndsEarly IsRun old new result
 
--- no library is accepted: the line of the refusal is written, or that of the limit
+-- no library is accepted, and the run writes the line of the refusal or that of the limit
 abbrev pub TurnsAway : List ℕ → Texts → List ℕ → Status → Type 0
 TurnsAway name texts = OnOpening (λ library out result. ⊥) (document_opening texts name)
 

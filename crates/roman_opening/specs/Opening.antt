@@ -1,4 +1,4 @@
--- What opening a system document gives, and the text that a run writes then.
+-- The result of opening a system document, and the text that a run then writes.
 use Rattle.std.specs.Prelude.{◌≡◌, ℕ, Bool, List, ◌++◌, Result, Ok, Err, nat_lt, codes, decimal, if◌then◌else◌}
 use Rattle.roman_io.specs.Shelf.{Texts}
 use Rattle.roman_model.specs.System.{Sys}
@@ -33,16 +33,16 @@ pub data Opening : Type 0 where
   Past : (library : PlainLibrary) → Opening
   Accepted : (library : PlainLibrary) → Opening
 
--- what opening a document with that meaning gives
+-- the result of opening a document with that meaning
 abbrev pub opening_of : Result PlainLibrary Refusal → Opening
 opening_of (Err refusal) = Refused refusal
 opening_of (Ok library) = if is_past_limit library then Past library else Accepted library
 
--- what opening the document of that name gives
+-- the result of opening the document of that name
 abbrev pub document_opening : Texts → List ℕ → Opening
 document_opening texts name = opening_of (library_of texts name)
 
--- an accepted library has the work done; otherwise the run writes the line of the first refusal, or that of the limit
+-- if a library is accepted, the work is done on it; otherwise the run writes the line of the first refusal or of the limit
 abbrev pub OnOpening : (PlainLibrary → List ℕ → Status → Type 0) → Opening → List ℕ → Status → Type 0
 OnOpening Work (Refused refusal) out result = EndsSaying (refusal_line refusal) status.Refused out result
 OnOpening Work (Past library) out result = EndsSaying (limit_line library.limit) status.Limit out result

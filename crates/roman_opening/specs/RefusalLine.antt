@@ -59,7 +59,7 @@ list_word list.Frozen = codes "frozen"
 list_word list.Rests = codes "rests"
 list_word list.Targets = codes "targets"
 
--- the words that only the line of a choice has: the earlier transition and the environment state
+-- the words at the end of the line of a choice: the earlier transition and the environment state
 abbrev pub choice_words : Kind → List ℕ
 choice_words (kind.Choice first state) = codes " " ++ decimal first ++ codes " " ++ state
 choice_words _ = []

@@ -1,6 +1,6 @@
-//! Opens the system document of a command: loads its library from a shelf, and makes of it the joint of
-//! its system, the greatest relation or a session. If that fails, writes the line that reports it, and
-//! returns the status with which the run ends.
+//! Opens the system document of a command: loads its library from a shelf, and builds the joint of
+//! its system, the greatest relation or a session. If that fails, writes the line that reports it,
+//! and returns the status with which the run ends.
 #![tactic(auto)]
 
 mod limits;

@@ -20,7 +20,7 @@ use roman_start::{Seated, seat_library};
 use std::alloc::Global;
 use std::sync::ledger::Ledger;
 
-/// A system as its greatest relation.
+/// The greatest relation of a system, and its start pair.
 #[derive(Drop)]
 pub struct Related {
     /// The relation.
@@ -29,9 +29,9 @@ pub struct Related {
     pub start: u32,
 }
 
-/// Loads the document `name`, and builds the joint of its system with the start pair. If that fails,
-/// returns the status with which the run ends, and writes the line of a refusal or of an exceeded
-/// limit.
+/// Loads the document `name`, and builds the joint of its system with the start pair. If that
+/// fails, returns the status with which the run ends, and writes the line of a refusal or of an
+/// exceeded limit.
 pub fn open_system<F: Shelf, O: Sink>(
     alloc: Global,
     name: &str,
@@ -56,8 +56,9 @@ pub fn open_system<F: Shelf, O: Sink>(
     }
 }
 
-/// Loads the document `name`, and builds the greatest relation of its system. If that fails, returns
-/// the status with which the run ends, and writes the line of a refusal or of an exceeded limit.
+/// Loads the document `name`, and builds the greatest relation of its system. If that fails,
+/// returns the status with which the run ends, and writes the line of a refusal or of an exceeded
+/// limit.
 pub fn open_relation<F: Shelf, O: Sink, L: Ledger>(
     alloc: Global,
     name: &str,

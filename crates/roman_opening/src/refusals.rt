@@ -10,8 +10,8 @@ use roman_parts::List;
 use roman_read::Kind;
 use roman_text::{Page, Piece};
 
-/// Writes `refused DOCUMENT KIND PART NUMBER LIST INDEX` and a newline. For a choice, the number of
-/// the earlier transition and the name of the environment state stand before the newline.
+/// Writes `refused DOCUMENT KIND PART NUMBER LIST INDEX` and a newline. For a choice, the line ends
+/// with the number of the earlier transition and the name of the environment state.
 pub fn put_refusal<O: Sink>(refusal: &Refusal, out: &mut O) -> Result<(), Failed>
     ensures puts { Puts (O.written out.old) (O.written out.new) (refusal_line refusal.now) result }
     ensures cause { HasCause (O.faults out.old) (O.faults out.new) result }
@@ -35,7 +35,7 @@ fn rule_piece(refusal: &Refusal) -> Piece
     index.text(choice_piece(&refusal.kind).bytes()).text(b"\n")
 }
 
-/// Returns the words that only the line of a choice has. They are empty for other kinds.
+/// Returns the words at the end of the line of a choice. They are empty for other kinds.
 fn choice_piece(kind: &Kind) -> Piece
     ensures text { result ≡ choice_words kind.now }
     ensures short { length result ≤ 44 }
@@ -47,7 +47,6 @@ fn choice_piece(kind: &Kind) -> Piece
     }
 }
 
-/// Returns the word for the kind of a refusal.
 fn word_of_kind(kind: &Kind) -> &'static [u8]
     ensures word { result.now ≡ kind_word kind.now }
     ensures short { length result.now ≤ 16 }

@@ -1,16 +1,16 @@
--- What follows from the step of an answer.
+-- Consequences of the step of an answer.
 use Rattle.roman_session.proofs.Common.{◌≡◌, ℕ, List, [], ◌++◌, Option, Result, Ok, Err, inl, inr, refl, sym, ap, subst, Puts, Puts-after_Gathered, reply_text, Situation, present_system, IsSituation, IsPhase, Delegated, Gathers, LineShape, observe, shape_of, LineError, Step, StepOn, StepBy, Answered, AnsweredOn, DoneOn, ObservedStaysGreat, IsGreat, shown, related_great, TurnsInto}
 use Rattle.roman_text.specs.declared.replies.Reply.TheVariants as reply
 use Rattle.roman_session.proofs.StepLemmas.{delegation_serves}
 
 -- ---- pages
 
--- an event was answered, and its reply was pushed
+-- the answer to an event whose reply is pushed
 pub done : {T E : Type 0} (old new : Situation) (shape : LineShape) (before after : Option (List ℕ)) (held holds text : List ℕ) (result : Result T E) → Gathers before after holds (held ++ text) result → StepOn old shape text new →
     DoneOn old shape new before after held holds result
 done old new shape before after held holds text result gathers step = record { text = text; step = step; gathers = gathers }
 
--- a reply that was pushed on an empty page, which was flushed then
+-- the answer to a line whose reply is pushed on an empty page, which is then flushed
 pub answered_whole : {T E T' E' : Type 0} (old new : Situation) (line : List ℕ) (before mid after : Option (List ℕ)) (held holds : List ℕ) (x : T) (result : Result T' E') → held ≡ [] →
     AnsweredOn {T = T} {E = E} old line new before mid held holds (Ok x) → Puts mid after holds result → Answered old line new before after result
 answered_whole old new line before mid after held holds x result empty a puts = record {
@@ -19,7 +19,7 @@ answered_whole old new line before mid after held holds x result empty a puts = 
   puts = subst (λ (bs : List ℕ). Puts before after bs result) (ap (λ (bs : List ℕ). bs ++ a.text) empty) (Puts-after_Gathered before mid after holds (held ++ a.text) result a.gathers puts);
 }
 
--- ---- what the reply says
+-- ---- what the reply means
 
 -- the step of a line is the step of its shape
 pub step_by_shape : (old new : Situation) (line text : List ℕ) (shape : LineShape) → shape_of line ≡ Ok shape → StepOn old shape text new → Step old line text new

@@ -6,7 +6,7 @@ pub record HasBegun (library : PlainLibrary) (a : Inside) : Type 0 where
   pub session : IsSession a
   pub start : IsStart library (situation_in a)
 
--- the states are those of the library's services
+-- the starting states are those of the library
 begins_at : (library : PlainLibrary) (x : Seated) (t e : ℕ) → IsSeated library x → t ≡ x.joint.target.beh.start → e ≡ x.joint.environment.env.start →
     ◌≡◌ {A = Pair} (record { t = t; e = e; bs = x.states.items }) (start_pair_of library)
 begins_at library x t e seated is_t is_e = grind arith

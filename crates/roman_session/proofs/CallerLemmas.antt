@@ -1,6 +1,6 @@
 -- The lemmas of this crate that proofs of other crates may cite. All else in proofs/ can be renamed freely.
 
--- What follows from offers and outcomes.
+-- Consequences of offers and outcomes.
 pub use Rattle.roman_session.proofs.AnswerLemmas.{observed_great}
 pub use Rattle.roman_session.proofs.StepLemmas.{delegation_serves, requests_offered}
 -- The steps of events, and the tests of their conditions.
@@ -10,7 +10,7 @@ pub use Rattle.roman_session.proofs.ReportLemmas.{reports_afresh}
 -- The library that begins in the present states has the present services.
 pub use Rattle.roman_session.proofs.ReportLemmas.{services_again}
 pub use Rattle.roman_session.proofs.WordLemmas.{lost_counted, offers_serving, reports_great}
--- What the fields of a session and the calls of its parts say of the situation.
+-- The situation in the fields of a session, and the results of calls on its parts.
 pub use Rattle.roman_session.proofs.SituationLemmas.{jumped_pair, mapped_at}
 -- Places of names.
 pub use Rattle.roman_session.proofs.NameLemmas.{in_place, place_there}

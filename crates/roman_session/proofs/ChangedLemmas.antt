@@ -1,4 +1,4 @@
--- A session after its services changed.
+-- A session after a change of its services.
 use Rattle.roman_session.proofs.Common.{◌≡◌, ℕ, ◌<◌, ◌≤◌, ◌+◌, List, [], ◌∷◌, ◌++◌, true, false, Some, IsFalse, not, map, length, drop, slice_get, slice_index_or, vec_capacity, refl, sym, ap, ap₂, ◌∙◌, subst, arith, length-map, get_or_from_slice_get, Sys, Pair, IsPair, is_ready, arena, Join, sizes_of, number, still, MAX_BEHAVIOURS, MAX_SERVICES, there_is, NamedSys, IsNamedSys, IsRelation, joined_system, cells, Relation, Counts, Great, reply_text, Reply, Situation, State, shown, with_services, present_system, IsPhase, IsReady, IsNewcomer, IsRepair, CountsLost, Joins, Joining, states_long, cases_lt, situation_in, IsSession, Phase, Idle, Offered, Inside, take, Vec, Global, vec_len, inl, inr, take-append-drop, length-drop, length-take, Entry, replay, IsComplete, Change, after, rename, entry_at, IsPair-turned, IsPair-grown, IsPair-without, IsRepaired, ServiceChange, Suits, SuitsSeat, StepOn, CanChangeService, event_of, change_at, services_after, states_after, Tally, by_test}
 use Rattle.roman_model.specs.System.{Seat}
 use Rattle.roman_joint.specs.declared.seat.Seat.{Seat as Service}
@@ -23,17 +23,17 @@ pub seat_unready : (s : Situation) (k : ℕ) → k < length s.parts.seats → (I
 seat_unready s k l unready =
     ap is_ready (seat_is s k l) ∙ by_test (seat_at s k).frozen (λ frozen. ap not frozen) (λ ready. absurd (unready (seat_at s k, seat_is s k l, ready)))
 
--- a change of the services, with the services and their states after it
+-- a change of the services, with the services and their states after the change
 pub record Changing : Type 0 where
   pub change : Change
   pub seats : List Service
   pub states : List ℕ
 
--- the service at place k, with this seat, changes
+-- the change of the service at place k, with this seat
 abbrev pub changing : ServiceChange → ℕ → Seat → Situation → Changing
 changing change k seat s = record { change = change_at change k seat; seats = services_after change s.parts.seats k; states = states_after change s.here.bs k }
 
--- a service is added in the last place
+-- the change that adds a service in the last place
 abbrev pub growing : Joining → Situation → Changing
 growing x s = record { change = Join (joint.seat_of s.parts.catalogue x.seat); seats = s.parts.seats ++ x.seat ∷ []; states = s.here.bs ++ x.state ∷ [] }
 
@@ -41,7 +41,7 @@ growing x s = record { change = Join (joint.seat_of s.parts.catalogue x.seat); s
 abbrev pub parts_after : Situation → Changing → NamedSys
 parts_after s x = record s.parts { seats = x.seats }
 
--- the list has k first entries, and n after them
+-- the list has k first entries, and n entries after them
 pub record IsSplit (k n : ℕ) (L : List (Entry Pair)) : Type 0 where
   pub prefix : length (take k L) ≡ k
   pub rest : length (drop k L) ≡ n
@@ -59,7 +59,7 @@ begins_with : (a b : Inside) (x : Changing) (tally : Tally) → IsRepaired x.cha
 begins_with a b x tally repaired =
     subst (λ (s : Sys). take tally.kept (map (entry_at s) b.relation.order.list) ≡ replay (arena s) (rename x.change (list_of a))) (sym repaired.system) repaired.list.begins
 
--- no service is offered if no request is open
+-- no service is offered when no request is open
 none_offered : {X : Type 0} (phase : Phase) (action : ℕ) → phase ≡ Idle → phase ≡ Offered action → X
 none_offered phase action idle offered = absurd (let h : ⊥ = cc in h)
 
@@ -81,7 +81,7 @@ moved_fields a relation states n = record { relation = relation; target = a.targ
 abbrev pub with_states : Inside → List ℕ → Pair
 with_states a bs = record { t = a.target; e = a.env; bs = bs }
 
--- the fields hold a session after the change of a situation, and the reply counts its entries
+-- the fields hold a session after the change of a situation, and the reply counts the entries of its list
 pub record HasChanged (b : Inside) (s : Situation) (x : Situation → Changing) (said : Reply) : Type 0 where
   pub session : IsSession b
   pub made : HasMade s (x s) (reply_text said) (situation_in b)
@@ -147,12 +147,12 @@ pub joined_pair : (a : Inside) (relation : Relation) (states : List ℕ) (x : Jo
     states ≡ a.states.items ++ x.state ∷ [] → IsPair (joint.system_of relation.joint) (with_states a states)
 joined_pair a relation states x tally ok can repaired items = pair_there a relation _ tally _ states repaired (IsPair-grown _ _ _ _ ok.known.here can.state) items
 
--- the seat of a present service, as the fields hold it
+-- the seat of a present service, in terms of the fields
 module _ (a : Inside) (s : Situation) (k : ℕ) (view : situation_in a ≡ s) (l : k < length s.parts.seats) where
   pub seat_inside : slice_get (joint.system_of a.relation.joint).seats k ≡ Some (seat_at s k)
   seat_inside = subst (λ (t : Situation). slice_get (present_system t).seats k ≡ Some (seat_at s k)) (sym view) (seat_is s k l)
 
-  -- the relation tests what suits a change
+  -- a change that suits the service passes the relation's test
   pub suits_inside : (change : ServiceChange) → Suits change (shown s) k → SuitsSeat change (slice_get (joint.system_of a.relation.joint).seats k)
   suits_inside change suits = subst (λ (t : Situation). SuitsSeat change (slice_get (present_system t).seats k)) (sym view) (at change suits)
     where
@@ -185,7 +185,7 @@ changes kind.Thaw old new service k text l can made =
     (inl ((k, can.at), inl (can.idle, inr (can.suits, (made.counts, made.becomes)))), inr (k, can.at, (seat_at old k, seat_is old k l, made.repair)))
 changes kind.Die old new service k text l can made = (inl ((k, can.at), inl (can.idle, (made.counts, made.becomes))), inr (k, can.at, (seat_at old k, seat_is old k l, made.repair)))
 
--- there is a place for a service if the number of services isn't the greatest one
+-- there is a place for a service if the number of services isn't the greatest number
 pub has_place : (a : Inside) → IsSession a → (length a.relation.joint.seats ≡ MAX_SERVICES → ⊥) → length a.relation.joint.seats < MAX_SERVICES
 has_place a ok not_full = omega (arith, not_full, ok.known.parts.system.few, length-map a.relation.joint.seats (joint.seat_of a.relation.joint.catalogue))
 
@@ -199,7 +199,7 @@ has_room a ok few =
 pub is_within : (cells limit : ℕ) → (limit < cells → ⊥) → cells ≤ limit
 is_within cells limit not_past = elim (cases_lt limit cells) [ inl past ↦ absurd (not_past past) | inr within ↦ within ]
 
--- a service joined
+-- the step of a service that joins
 pub joins_by : (a b : Inside) (s : Situation) (x : Joining) (said : Reply) → situation_in a ≡ s → length a.relation.joint.seats < MAX_SERVICES →
     cells (after (Join (joint.seat_of a.relation.joint.catalogue x.seat)) (joint.system_of a.relation.joint)) ≤ a.relation.joint.limit → HasChanged b s (growing x) said → Joins s x (reply_text said) (situation_in b)
 joins_by a b s x said view few fits done =
@@ -210,12 +210,12 @@ joins_by a b s x said view few fits done =
     let fits_here = subst (λ (n : NamedSys). cells (joint.system_of (record n { seats = n.seats ++ x.seat ∷ [] })) ≤ n.limit) parts fits_too in
     (inl (few_here, inl (fits_here, (made.counts, made.becomes))), inr (x.seat, ap (λ (s : State). s.parts.seats) made.becomes, made.repair))
 
--- a refused service leaves the fields
+-- a refused service leaves the fields unchanged
 refused_by : (a : Inside) (relation : Relation) (s : Situation) (x : Joining) (text : List ℕ) → situation_in a ≡ s → relation ≡ a.relation → Joins (situation_in a) x text (situation_in a) → Joins s x text (situation_in (turned_fields a relation))
 refused_by a relation s x text view same adds =
     subst (λ (s : Situation). Joins s x text (situation_in (turned_fields a relation))) view (subst (λ (r : Relation). Joins (situation_in a) x text (situation_in (turned_fields a r))) (sym same) adds)
 
--- a service is refused if there are too many
+-- a service is refused if there are too many services
 pub full_by : (a : Inside) (relation : Relation) (s : Situation) (x : Joining) → situation_in a ≡ s → length a.relation.joint.seats ≡ MAX_SERVICES → relation ≡ a.relation →
     Joins s x (reply_text reply.ErrorFull) (situation_in (turned_fields a relation))
 full_by a relation s x view full same = refused_by a relation s x (reply_text reply.ErrorFull) view same (inr (λ few. absurd (omega (arith, few, full)), (refl, refl)), inl refl)

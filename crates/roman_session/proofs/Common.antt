@@ -1,4 +1,4 @@
--- What the proof pages of this crate cite from elsewhere, passed on from one place. Declares nothing.
+-- Re-exports the names that the proof pages of this crate use from other crates. Declares nothing.
 pub use Rattle.std.proofs.Common.{Bool, Err, Global, IfSome, IsFalse, IsTrue, List, None, Ok, Option, Result, Some, Vec, [], add-one, ap, append_assoc, ap₂, arith, codes, cond, drop, false, find, get_or, inl, inr, is_ok, length, length-append, length-drop, map, not, refl, rules, slice_get, slice_index, slice_index_or, slice_set, subst, suc, sym, take, take-append-drop, true, vec_capacity, vec_len, zero, ℕ, ◌&&◌, ◌++◌, ◌+◌, ◌<◌, ◌↔◌, ◌∙◌, ◌∷◌, ◌≡◌, ◌≢◌, ◌≤◌}
 pub use Rattle.std.proofs.Math.Seq.{drop-cons}
 pub use Rattle.std.proofs.lemmas.Bool.{both_ways, cases_lt, cond-false, cond-true, false≢true, not-false, not-true, or_cases, or_parts}

@@ -19,11 +19,11 @@ lines-append : (xs ys : List ReportLine) → lines_text (xs ++ ys) ≡ lines_tex
 unfolding lines_text
 lines-append xs ys = flat_map-append line_text xs ys
 
--- the line at a place comes next
+-- the text of the lines from a place on begins with the line at that place
 pub next_line : (lines : List ReportLine) (i : ℕ) (x : ReportLine) → i < length lines → x ≡ get_or lines i x → lines_text (drop i lines) ≡ line_text x ++ lines_text (drop (i + 1) lines)
 next_line lines i x l is = grind (arith, drop-cons, lines-cons)
 
--- none is left at the end
+-- no text follows the last line
 pub no_line : (lines : List ReportLine) (i : ℕ) → length lines ≤ i → lines_text (drop i lines) ≡ []
 no_line lines i l = ap lines_text (drop_all i lines l) ∙ lines-nil
 
@@ -33,17 +33,17 @@ no_line lines i l = ap lines_text (drop_all i lines l) ∙ lines-nil
 pub walk : (ℕ → Bool) → (ℕ → List ℕ) → List ℕ → ℕ → ℕ → List ℕ
 walk test text tail n k = flat_map text (filter test (drop k (below n))) ++ tail
 
--- a number that passes comes next
+-- the next number passes, and its text comes first
 pub walk_next : (test : ℕ → Bool) (text : ℕ → List ℕ) (tail : List ℕ) (n k : ℕ) → k < n → IsTrue (test k) → walk test text tail n k ≡ text k ++ walk test text tail n (k + 1)
 unfolding walk
 walk_next test text tail n k l passes = grind (arith, append_assoc, cond-true, from_place)
 
--- any other number is passed over
+-- the next number doesn't pass, and has no text
 pub walk_over : (test : ℕ → Bool) (text : ℕ → List ℕ) (tail : List ℕ) (n k : ℕ) → k < n → IsFalse (test k) → walk test text tail n k ≡ walk test text tail n (k + 1)
 unfolding walk
 walk_over test text tail n k l fails = grind (arith, cond-false, from_place)
 
--- only the text after them is left at the end
+-- after all numbers only the last text remains
 pub walk_end : (test : ℕ → Bool) (text : ℕ → List ℕ) (tail : List ℕ) (n k : ℕ) → n ≤ k → walk test text tail n k ≡ tail ++ []
 unfolding walk
 walk_end test text tail n k l = grind (arith, append-nil, from_end)
@@ -58,7 +58,7 @@ pub served_begin : (parts : NamedSys) (mask : ℕ) → served_from parts mask 0 
 unfolding walk served_text
 served_begin parts mask = refl
 
--- a seat of the mask comes next
+-- the next seat is in the mask, and its name comes first
 pub next_served : (parts : NamedSys) (mask k : ℕ) (seat : Seat) → k < length parts.seats → IsTrue (has_seat mask k) → slice_get parts.seats k ≡ Some seat →
     served_from parts mask k ≡ (codes " " ++ seat.name) ++ served_from parts mask (k + 1)
 next_served parts mask k seat l set seated =
@@ -81,24 +81,24 @@ served_offers : (parts : NamedSys) (p : Pair) (a mask : ℕ) → length (system_
 unfolding served_text
 served_offers parts p a mask few allowed bits = grind (arith, length-map, (offers_set (system_of parts) p a mask allowed few bits))
 
--- the services that a report line lists
+-- the text of the services that a report line lists
 served_lines : (parts : NamedSys) (ks : List ℕ) → lines_text (map (λ k. line.Serves (name_at (map seat_name parts.seats) k)) ks) ≡ flat_map (served parts) ks
 unfolding lines_text
 served_lines parts [] = refl
 served_lines parts (k ∷ ks) = ap (λ (text : List ℕ). served parts k ++ text) (served_lines parts ks)
 
--- the line of an action, in the pieces in which it is pushed
+-- the line of an action, as the pieces that are pushed
 pub offer_line_is : (parts : NamedSys) (p : Pair) (a mask : ℕ) (name : List ℕ) → length (system_of parts).seats ≤ 32 → name ≡ name_at parts.environment.actions a → IsTrue (is_allowed (system_of parts) p a) →
     HasBits mask (has (offers (system_of parts) p a)) → line_text (line.Offer name) ++ (served_line parts mask ++ []) ≡ lines_text (offer_line parts p a)
 offer_line_is parts p a mask name few is allowed bits = grind (arith, append-nil, lines-append, lines-cons, lines-nil, served_lines, served_offers)
 
--- the reply to a request, in the pieces in which it is pushed
+-- the reply to a request, as the pieces that are pushed
 pub offer_text_is : (s : Situation) (a mask : ℕ) → length (situation.present_system s).seats ≤ 32 → IsTrue (is_allowed (situation.present_system s) s.here a) → HasBits mask (has (offers (situation.present_system s) s.here a)) →
     reply_text reply.Offer ++ (served_line s.parts mask ++ []) ≡ offer_text s a
 unfolding offer_text
 offer_text_is s a mask few allowed bits = grind (arith, append-nil, served_offers)
 
--- the texts of lines, list by list
+-- the text of a list of lists of lines
 lines_flat : (f : ℕ → List ReportLine) (ks : List ℕ) → lines_text (flat_map f ks) ≡ flat_map (λ k. lines_text (f k)) ks
 unfolding lines_text
 lines_flat f [] = refl
@@ -108,7 +108,7 @@ lines_flat f (k ∷ ks) = lines-append (f k) (flat_map f ks) ∙ ap (λ (text : 
 abbrev pub offers_from : NamedSys → Pair → ℕ → List ℕ
 offers_from parts p a = walk (is_allowed (system_of parts) p) (λ a. lines_text (offer_line parts p a)) (line_text line.End) (system_of parts).env.actions a
 
--- if the pair is related the lines are those of all actions from 0 on
+-- if the pair is related, the lines are those of all actions from 0 on
 pub offers_begin : (parts : NamedSys) (p : Pair) → IsTrue (is_related (system_of parts) p) → offers_from parts p 0 ≡ lines_text (offers_and_end parts p)
 unfolding walk lines_text
 offers_begin parts p related =
@@ -117,18 +117,18 @@ offers_begin parts p related =
     sym (ap (λ (xs : List ReportLine). lines_text (xs ++ line.End ∷ [])) (cond-true (is_related (system_of parts) p) lines [] related) ∙ lines-append lines (line.End ∷ [])
     ∙ ap₂ (λ (xs ys : List ℕ). xs ++ ys) (lines_flat (offer_line parts p) actions) (append-nil (line_text line.End)))
 
--- an allowed action comes next
+-- the next action is allowed, and its line comes first
 pub next_offer : (parts : NamedSys) (p : Pair) (a : ℕ) → a < (system_of parts).env.actions → IsTrue (is_allowed (system_of parts) p a) →
     offers_from parts p a ≡ lines_text (offer_line parts p a) ++ offers_from parts p (a + 1)
 next_offer parts p a l allowed = walk_next _ _ _ _ a l allowed
 
--- if the pair isn't related only the end is left
+-- if the pair isn't related, only the end remains
 pub no_offers : (parts : NamedSys) (p : Pair) → IsFalse (is_related (system_of parts) p) → line_text line.End ++ [] ≡ lines_text (offers_and_end parts p)
 no_offers parts p unrelated = grind (arith, cond-false, lines-cons, lines-nil)
 
 -- ---- services
 
--- the service at a place comes first
+-- the line of the service at a place comes first
 pub service_first : (parts : NamedSys) (p : Pair) (k b : ℕ) (seat : Seat) (beh : NamedBeh) (name : List ℕ) → slice_get parts.seats k ≡ Some seat → k < length p.bs → b ≡ slice_index p.bs k →
     slice_get parts.catalogue seat.behaviour ≡ Some beh → slice_get beh.states b ≡ Some name →
     services_from parts p k ≡ line.Service seat.name beh.name name seat.frozen (not seat.rests) ∷ services_from parts p (k + 1)
@@ -143,18 +143,18 @@ service_first parts p k b seat beh name seated l is placed there =
 abbrev pub services_left : NamedSys → Pair → ℕ → List ReportLine
 services_left parts p k = services_from parts p k ++ line.Answer (is_related (system_of parts) p) ∷ []
 
--- the line of a service comes next
+-- the text of the next service comes first
 pub next_service : (parts : NamedSys) (p : Pair) (k : ℕ) (x : ReportLine) → services_from parts p k ≡ x ∷ services_from parts p (k + 1) →
     lines_text (services_left parts p k) ≡ line_text x ++ lines_text (services_left parts p (k + 1))
 next_service parts p k x e = ap (λ (xs : List ReportLine). lines_text (xs ++ line.Answer (is_related (system_of parts) p) ∷ [])) e ∙ lines-cons _ _
 
--- only the answer is left at the end
+-- after all services only the answer remains
 pub no_service : (parts : NamedSys) (p : Pair) (k : ℕ) (r : Bool) → length parts.seats ≤ k → r ≡ is_related (system_of parts) p → lines_text (services_left parts p k) ≡ line_text (line.Answer r) ++ []
 no_service parts p k r l is = grind (arith, drop_all, lines-cons, lines-nil)
 
 -- ---- the report
 
--- the pieces in which the report is pushed
+-- the report, as the pieces that are pushed
 pub report_is : (parts : NamedSys) (p : Pair) (head : List ReportLine) → head ≡ report_head parts p →
     lines_text head ++ (lines_text (services_and_answer parts p) ++ (lines_text (offers_and_end parts p) ++ [])) ≡ report_text parts p
 unfolding report_text

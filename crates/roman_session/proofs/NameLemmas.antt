@@ -1,7 +1,7 @@
 -- Places of names.
 use Rattle.roman_session.proofs.Common.{◌≡◌, ℕ, ◌+◌, ◌<◌, ◌≤◌, List, [], Some, None, get_or, slice_get, arith, bytes_eq, IsIn, position-Some, slice_get-get_or, place_of, bytes_eq-Decides, Place, Option, refl, none_absent, get_in}
 
--- the name stands at its place
+-- the name is at its place
 pub place_there : (names : List (List ℕ)) (name : List ℕ) (i : ℕ) → place_of names name ≡ Some i → slice_get names i ≡ Some name
 place_there names name i e = grind (arith, (position-Some (bytes_eq name) names i), (slice_get-get_or names i), (bytes_eq-Decides name (get_or names i [])))
 

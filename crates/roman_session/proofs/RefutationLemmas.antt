@@ -14,7 +14,7 @@ module _ (s : Sys) (answers : Entry Pair → ℕ → Option Pair) (all : List (E
   wins_more (suc n) zero p l wins = absurd (omega (arith, l))
   wins_more (suc n) (suc m) p l (x, i, same, lost) = (x, i, same, lost_more s (WinsBy s answers all n) (WinsBy s answers all m) (answers x) p x.reason (λ q. wins_more n m q (omega (arith, l))) lost)
 
-  -- the opponent who wins from the earlier pairs wins from the others, by as many more entries as there are others
+  -- the opponent who wins from the earlier pairs wins from the others, with at most one more entry for each of them
   wins_from : (n m : ℕ) (before : List Pair) (rest : List (Entry Pair)) → length rest + n ≤ m → ((q : Pair) → IsIn q before → WinsBy s answers all n q) → ((x : Entry Pair) → IsIn x rest → IsIn x all) →
       AreLost s answers before rest → (x : Entry Pair) → IsIn x rest → WinsBy s answers all m x.node
   wins_from n m before [] l wins within lost x none = absurd none
@@ -58,7 +58,7 @@ module _ (s : Sys) (ok : IsSys s) (L : List (Entry Pair)) (p : Pair) (order : Is
       let (y, j, here) = listed_in (arena s) (system_is_same s) done q there in
       (y, j, subst (λ (q : Pair). IsTrue (rests_on (arena s) L (length L) p q)) (sym same ∙ here) (filter_in is_shown z L i).1, here)
 
-  -- the answers of an explained entry are those that its text gives
+  -- each answer of an explained entry is one that its text gives
   answers_lose : (done : List (Entry Pair)) (x : Entry Pair) (rest : List (Entry Pair)) (before : List Pair) (a k : ℕ) → L ≡ done ++ x ∷ rest → IsTrue (is_shown x) → x.reason ≡ Act a → k < length s.seats →
       ((y : Entry Pair) → IsIn y done → IsTrue (is_shown y) → IsIn y.node before) → IsTrue (is_beaten (arena s) (is_listed (arena s) done) x.node a k) →
       (o : Option Pair) → answer (arena s) L x.node a k ≡ o → find (is_listed (arena s) done) (outcomes s x.node a k) ≡ o → MayAnswer s (λ q. IsIn q before) x.node a k o

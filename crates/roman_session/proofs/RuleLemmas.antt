@@ -1,4 +1,4 @@
--- What the checks of an event find.
+-- The results of the checks of an event.
 use Rattle.roman_session.proofs.Common.{◌≡◌, ℕ, not, ◌<◌, ◌∙◌, Bool, true, false, List, length, length-map, IsFalse, IsTrue, not-true, false≢true, same_Some, Err, Ok, Some, inl, inr, refl, sym, ap, subst, arith, slice_get, slice_set, is_allowed, is_related, allowed_in, from_allowed, related_great, great_related, number_listed, listed_number, has, offers, seat_read, system_of, seat_of, moved, NamedSys, Seat, FindsPlace, Tests, StepOn, CanRequest, CanObserve, CanJoin, JoinWords, join_of, Joins, Needs, Replies, Refuses, SStep, TStep, CanMove, request, observe, report, explain, Observation, Joining, names_in, name_at, reply_text, Reply, Delegated, Offered, Idle, IsOpen, IsPhase, get_or_from_slice_get, offer_text, report_text, explain_text, Situation, present_system, shown, IsSituation, IsReady, IsGreat, MayRequest, ServesHere, Inside, situation_in, [], is_ok, IsIn, get_in, Result, OffersServing, ServiceChange, event_of, Place, map, seat_name, IsAt}
 use Rattle.roman_model.specs.System as model
 use Rattle.roman_text.specs.declared.replies.Reply.TheVariants as reply
@@ -28,7 +28,7 @@ offered_tests s a k is requested l =
     tests _ _ (λ offered. ((serving.exact k).0 (number_listed (offers (present_system s) s.here a) k offered)).1)
     (λ serves. listed_number (offers (present_system s) s.here a) k ((serving.exact k).1 (omega (arith, l, length-map s.parts.seats (seat_of s.parts.catalogue)), serves)))
 
--- the test of a service that may be frozen
+-- the test whether a service can be frozen
 pub ready_tests : (n : NamedSys) (s : Situation) (k : ℕ) (seat : Seat) → n ≡ s.parts → slice_get n.seats k ≡ Some seat → Tests (not seat.frozen) (IsReady (shown s) k)
 ready_tests n s k seat same seated =
     let there = seat_read s.parts k seat (subst (λ (n : NamedSys). slice_get n.seats k ≡ Some seat) same seated) in
@@ -37,7 +37,7 @@ ready_tests n s k seat same seated =
 
 -- ---- names
 
--- a name isn't found
+-- the refusal of a name that isn't found
 pub no_name : (s : Situation) (r : Reply) → r ≡ reply.ErrorName → Refuses (shown s) (reply_text r) (shown s) reply.ErrorName
 no_name s r is = (ap reply_text is, refl)
 
@@ -48,7 +48,7 @@ found_tests names name (Err refusal) (same, none) = λ i. none (in_place names n
 
 -- ---- do
 
--- the request can be made, as computed
+-- a request that passes the checks can be open
 pub may_open : (s : Situation) (action : List ℕ) (a : ℕ) → IsSituation s → CanRequest s action a → IsOpen s a
 may_open s action a is can = (great_related (present_system s) s.here is.parts.system can.great, allowed_in (present_system s) s.here a is.parts.system can.may)
 
@@ -66,7 +66,7 @@ requests old new action a is can becomes =
 
 -- ---- use
 
--- the phase after a delegation that isn't refused is possible
+-- a delegation that isn't refused leads to a possible phase
 pub delegate_opens : (s : Situation) (a k : ℕ) → IsSituation s → s.phase ≡ Offered a → ServesHere (shown s) a k → k < length s.parts.seats → IsPhase s (Delegated a k)
 delegate_opens s a k is requested serves l =
     let opens = subst (IsPhase s) requested is.phase in
@@ -75,7 +75,7 @@ delegate_opens s a k is requested serves l =
 
 -- ---- saw
 
--- saw: the pair moves to what was observed, or that is impossible
+-- saw: the pair moves to the observed states, or the outcome is impossible
 abbrev pub Observes : Situation → List ℕ → Observation → List ℕ → Situation → Type 0
 Observes s env x text new =
     Needs (SStep (present_system s) s.here.bs s.here.e x.action x.seat (slice_set s.here.bs x.seat x.state) x.env) (Refuses (shown s) text (shown new) reply.Impossible) (λ possible.
@@ -98,14 +98,14 @@ observes s new state env x text can acts list = (
   list,
 )
 
--- no step leads to what was observed
+-- no step leads to the observed states
 pub observes_never : (a : Inside) (s : Situation) (x : Observation) (name bs : List ℕ) → situation_in a ≡ s → bs ≡ a.states.items →
     (CanMove (system_of a.relation.joint) (record { t = a.target; e = a.env; bs = bs }) x.action x.seat x.state x.env → ⊥) → Observes s name x (reply_text reply.Impossible) s
 observes_never a s x name bs view same never =
     let none = subst (λ (bs : List ℕ). CanMove (system_of a.relation.joint) (record { t = a.target; e = a.env; bs = bs }) x.action x.seat x.state x.env → ⊥) same never in
     inr (subst (λ (s : Situation). CanMove (present_system s) s.here x.action x.seat x.state x.env → ⊥) view none, (refl, refl))
 
--- the pair moves to what was observed
+-- the pair moves to the observed states
 pub observes_moved : (a : Inside) (s new : Situation) (x : Observation) (to : ℕ) (name bs text : List ℕ) → situation_in a ≡ s → bs ≡ a.states.items →
     TStep (system_of a.relation.joint) a.target a.env x.action to x.env × CanMove (system_of a.relation.joint) (record { t = a.target; e = a.env; bs = bs }) x.action x.seat x.state x.env →
     new ≡ record s { here = moved s.here to x.env x.seat x.state; phase = Idle } → text ≡ reply_text (reply.Now (name_at s.parts.target.states to) name) → Observes s name x text new
@@ -116,13 +116,13 @@ observes_moved a s new x to name bs text view same (target, system) becomes says
 
 -- ---- freeze, thaw, die
 
--- no present service has the name
+-- the refusal if no present service has the name
 pub change_unnamed : (change : ServiceChange) (s : Situation) (service : List ℕ) → (Place (map seat_name s.parts.seats) service → ⊥) → StepOn s (event_of change service) (reply_text reply.ErrorName) s
 change_unnamed kind.Freeze s service none = (inr (none, (refl, refl)), inl refl)
 change_unnamed kind.Thaw s service none = (inr (none, (refl, refl)), inl refl)
 change_unnamed kind.Die s service none = (inr (none, (refl, refl)), inl refl)
 
--- a request is open
+-- the refusal if a request is open
 pub change_busy : (change : ServiceChange) (s : Situation) (service : List ℕ) (k : ℕ) → IsAt s service k → (s.phase ≡ Idle → ⊥) → StepOn s (event_of change service) (reply_text reply.ErrorBusy) s
 change_busy kind.Freeze s service k at busy = (inl ((k, at), inr (busy, (refl, refl))), inl refl)
 change_busy kind.Thaw s service k at busy = (inl ((k, at), inr (busy, (refl, refl))), inl refl)

@@ -1,4 +1,4 @@
--- What the fields of a session and the calls of its parts say of the situation.
+-- The situation in the fields of a session, and the results of calls on its parts.
 use Rattle.roman_session.proofs.Common.{◌≤◌, Vec, Global, vec_capacity, ◌≡◌, ℕ, ◌<◌, Bool, List, [], Option, Some, IfSome, IsTrue, map, length, slice_get, slice_set, slice_index, sym, ap, ◌∙◌, subst, arith, ◌↔◌, slice_index_or, MAX_SERVICES, number, sizes_of, pair_at, has, Sys, Pair, IsPair, HasBits, get_or_from_slice_get, slice_get-map, length-map, get_or-set_same, both_ways, is_ready, outcomes, IsIn, is_related, offers, Great, related_great, great_related, offer_is, there_is, not_empty_in, ne_not_empty, by_test, outcome_seat, states_set, states_below, AreBelow-index, moved, NamedBeh, NamedSys, Seat, seat_name, states_long, Situation, present_system, IsPhase, IsSituation, IsOpen, service_at, situation_in, IsSession, Phase, Idle, Offered, Delegated, Inside, option_map, get_or, slice_get-get_or, beh_states, states_of_behaviour}
 use Rattle.roman_model.specs.System.{Seat as Seat'}
 use Rattle.roman_joint.specs.NamedSys as joint
@@ -11,7 +11,7 @@ situation_known a s ok view = subst IsSituation view ok.known
 abbrev pub fields_at : Inside → ℕ → ℕ → Vec ℕ Global → ℕ → Phase → ℕ → Inside
 fields_at a t e states n phase mask = record { relation = a.relation; target = t; env = e; states = states; number = n; phase = phase; mask = mask }
 
--- they hold a session too
+-- the fields at another pair or in another phase hold a session
 pub session_at : (a : Inside) (t e : ℕ) (states : Vec ℕ Global) (n : ℕ) (phase : Phase) (mask : ℕ) → IsSession a → MAX_SERVICES ≤ vec_capacity states →
     let s = situation_in (fields_at a t e states n phase mask) in
     IsPair (present_system s) s.here → n ≡ number (sizes_of (present_system s)) s.here → IsPhase s phase →
@@ -25,7 +25,7 @@ session_at a t e states n phase mask ok room pair counted opens offered = record
   offered = offered;
 }
 
--- the situation's parts are the joint's
+-- the situation has the parts of the joint
 pub parts_shown : (a : Inside) (s : Situation) → situation_in a ≡ s → a.relation.joint ≡ s.parts
 parts_shown a s view = ap (λ (s : Situation). s.parts) view
 
@@ -44,7 +44,7 @@ moved_within s p t e k b is ok l =
     subst (λ (n : ℕ). n < slice_index (sizes_of s).seats k) there
     (AreBelow-index (sizes_of s).seats bs k (states_below s.seats bs ok.bs) (omega (arith, l, length-map s.seats (λ (x : Seat'). x.beh.states))))
 
--- the item of a mapped list at a place
+-- the image of the element at a place of a list
 pub mapped_at : {X Y : Type 0} (f : X → Y) (xs : List X) (k : ℕ) (x : X) (d : Y) → slice_get xs k ≡ Some x → slice_index_or (map f xs) k d ≡ f x
 mapped_at f xs k x d h = get_or_from_slice_get (map f xs) k (f x) d (slice_get-map f xs k ∙ ap (option_map f) h)
 
@@ -59,17 +59,17 @@ offered_within s a k is i =
     let (allowed, l, some, all) = offer_is (present_system s) s.here a k is.parts.system is.here i in
     omega (arith, l, length-map s.parts.seats (joint.seat_of s.parts.catalogue))
 
--- what is so at the number of the current pair is so at the pair
+-- a value at the number of the current pair is the value at the pair
 pub at_here : {X : Type 0} (F : Sys → Pair → X) (s : Situation) (n : NamedSys) (p : ℕ) → n ≡ s.parts → pair_at (sizes_of (present_system s)) p ≡ s.here →
     F (joint.system_of n) (pair_at (sizes_of (joint.system_of n)) p) ≡ F (present_system s) s.here
 at_here F s n p same at = ap (λ (n : NamedSys). F (joint.system_of n) (pair_at (sizes_of (joint.system_of n)) p)) same ∙ ap (F (present_system s)) at
 
--- what holds at the number of the current pair holds at the current pair
+-- a property at the number of the current pair is the property of the pair
 holds_here : (P : Sys → Pair → Type 0) (s : Situation) (n : NamedSys) (p : ℕ) → n ≡ s.parts → pair_at (sizes_of (present_system s)) p ≡ s.here →
     P (joint.system_of n) (pair_at (sizes_of (joint.system_of n)) p) → P (present_system s) s.here
 holds_here P s n p same at there = subst (P (present_system s)) at (subst (λ (n : NamedSys). P (joint.system_of n) (pair_at (sizes_of (joint.system_of n)) p)) same there)
 
--- a flag that is true exactly for a related current pair is the definition's test
+-- a flag that is true exactly for a related current pair equals `is_related`
 pub related_is : (s : Situation) (n : NamedSys) (p : ℕ) (r : Bool) → IsSituation s → n ≡ s.parts → pair_at (sizes_of (present_system s)) p ≡ s.here →
     IsTrue r ↔ Great (joint.system_of n) (pair_at (sizes_of (joint.system_of n)) p) → r ≡ is_related (present_system s) s.here
 related_is s n p r is same at there =
@@ -96,7 +96,7 @@ phase_kept s new Idle h = tt
 phase_kept s new (Offered a) h = h
 phase_kept s new (Delegated a k) h = h
 
--- the name of a present service stands at its place
+-- the name of a present service is at its place
 pub name_there : (n : NamedSys) (s : Situation) (k : ℕ) (seat : Seat) → n ≡ s.parts → slice_get n.seats k ≡ Some seat → slice_get (map seat_name s.parts.seats) k ≡ Some seat.name
 name_there n s k seat same h = slice_get-map seat_name s.parts.seats k ∙ ap (option_map seat_name) (subst (λ (n : NamedSys). slice_get n.seats k ≡ Some seat) same h)
 

@@ -32,7 +32,7 @@ lost_counted s kept added complete =
 
 -- reports
 
--- a flat map over a list or over none
+-- a flat map of a list, or of an empty list
 picked_lines : {X Y : Type 0} (b : Bool) (f : X → List Y) (xs : List X) → cond b (flat_map f xs) [] ≡ flat_map f (cond b xs [])
 picked_lines true f xs = refl
 picked_lines false f xs = refl
@@ -75,7 +75,7 @@ reports_great s text sys pair says =
       says = says ∙ (grind (arith, length-pairs, picked_lines));
     }
 
--- the report of the library that begins in the present states of the session is right too
+-- the report is also right for the library that begins in the present states of the session
 pub reports_both : (s : Situation) (text : List ℕ) → IsSituation s → text ≡ report_text s.parts s.here → ReportsGreat (shown s) text × ReportsGreat (start_state (afresh (shown s))) text
 reports_both s text is says =
     let (sys, pair) = afresh_known s is in

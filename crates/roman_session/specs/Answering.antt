@@ -1,4 +1,4 @@
--- How a session answers a line, and what was written.
+-- How a session answers a line, and which bytes it writes.
 use Rattle.std.specs.Prelude.{◌≡◌, ◌≢◌, ℕ, List, [], ◌++◌, Option, Result, Ok, if◌then◌else◌}
 use Rattle.roman_model.specs.Offers.{offers}
 use Rattle.roman_io.specs.Sink.{Puts}
@@ -40,10 +40,10 @@ NamesSome old = (a : ℕ) → IsGreat (shown old) → MayRequest (shown old) a �
 abbrev pub ObservedStaysGreat : Situation → List ℕ → Situation → Type 0
 ObservedStaysGreat old line new = (state env : List ℕ) (a k : ℕ) → shape_of line ≡ Ok (observe state env) → old.phase ≡ Delegated a k → IsGreat (shown new)
 
--- whether a session goes on after an event: it ends exactly at `quit`
+-- whether a session continues after an event: it ends exactly at `quit`
 abbrev pub next_after : Result LineShape LineError → Next
 next_after shape = if is_quit shape then Quit else More
 
--- whether a session goes on after a line
+-- whether a session continues after a line
 abbrev pub next_of : List ℕ → Next
 next_of line = next_after (shape_of line)

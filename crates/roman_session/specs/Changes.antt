@@ -18,7 +18,7 @@ event_of Freeze service = freeze service
 event_of Thaw service = thaw service
 event_of Die service = die service
 
--- the change of the system, if this seat stands at place k
+-- the change of the system, if this seat is at place k
 abbrev pub change_at : ServiceChange → ℕ → Seat → model.Change
 change_at Freeze k seat = model.Freeze k
 change_at Thaw k seat = model.Thaw k
@@ -42,7 +42,7 @@ Suits Freeze s k = IsReady s k
 Suits Thaw s k = IsReady s k → ⊥
 Suits Die s k = Unit {0}
 
--- the same of the seat at a place, as the relation tests it
+-- the relation's test of this condition, for the seat at a place
 abbrev pub SuitsSeat : ServiceChange → Option Seat → Type 0
 SuitsSeat Freeze seat = IsTrue (is_ready seat)
 SuitsSeat Thaw seat = IsFalse (is_ready seat)

@@ -20,8 +20,9 @@ situation_in a = record {
   list = map (entry_at (system_of a.relation.joint)) a.relation.order.list;
 }
 
--- the relation's list is complete, the situation is well formed, the catalogue has at most as many behaviours as a document, there is
--- room for the greatest number of services, the number is the current pair's, and the mask has exactly the offered services
+-- the relation's list is complete, the situation is well formed, the catalogue has at most as many behaviours as a document,
+-- there is room for the greatest number of services, the number is that of the current pair, and the mask has exactly the
+-- offered services
 pub record IsSession (a : Inside) : Type 0 where
   pub relation : IsRelation a.relation.joint a.relation.order
   pub known : IsSituation (situation_in a)

@@ -1,4 +1,4 @@
--- Why a pair isn't related, in terms of steps: removal lists, and the opponent who plays by them.
+-- Proofs that a pair isn't related, in terms of steps: removal lists, and the opponent who plays by them.
 use Rattle.std.specs.Prelude.{◌≡◌, ℕ, zero, suc, ◌<◌, List, [], ◌∷◌, length, Option, None, Some, IsTrue, IsFalse}
 use Rattle.roman_model.specs.Lists.{IsIn}
 use Rattle.roman_model.specs.System.{Sys, Pair, Allows, is_final, all_final}
@@ -24,8 +24,8 @@ AreLost s answers before [] = Unit {0}
 AreLost s answers before (x ∷ entries) =
     (IsIn x.node before → ⊥) × IsLost s (λ q. IsIn q before) (answers x) x.node x.reason × AreLost s answers (x.node ∷ before) entries
 
--- the opponent wins from p by at most n entries: if the entry of p says `final`, it has won; otherwise it makes the entry's request,
--- and each seat then has no answer, or may go to a pair from which the opponent wins by one entry less
+-- the opponent wins from p by at most n entries: if the entry of p is `final`, it has won; otherwise it makes the entry's request,
+-- and each seat then has no answer, or may go to a pair from which the opponent wins by one entry fewer
 abbrev pub WinsBy : Sys → (Entry Pair → ℕ → Option Pair) → List (Entry Pair) → ℕ → Pair → Type 0
 WinsBy s answers entries zero p = ⊥
 WinsBy s answers entries (suc n) p =

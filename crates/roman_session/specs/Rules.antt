@@ -1,4 +1,4 @@
--- What the checks of an event find: the refusal of its step, or what it names.
+-- The results of the checks of an event: the refusal of its step, or the things that the event names.
 use Rattle.std.specs.Prelude.{◌≡◌, ℕ, ◌<◌, ◌≤◌, ◌⊎◌, Bool, true, false, not, List, [], ◌∷◌, ◌++◌, map, length, Result, Ok, Err, Some, IsTrue, IsFalse, slice_get}
 use Rattle.roman_model.specs.Lists.{IsIn}
 use Rattle.roman_model.specs.Change.{Join}
@@ -26,7 +26,7 @@ use Rattle.roman_session.specs.Words.{CountsLost}
 use Rattle.roman_session.specs.Turns.{Needs, Place, Refuses, with_services}
 use Rattle.roman_session.specs.Steps.{StepOn, IsAt, IsRepair, shown}
 
--- the place at which a name stands in a list, or `error name` if it stands at none
+-- the place of a name in a list, or `error name` if the list lacks it
 abbrev pub FindsPlace : List (List ℕ) → List ℕ → Result ℕ Reply → Type 0
 FindsPlace names name (Ok i) = slice_get names i ≡ Some name
 FindsPlace names name (Err refusal) = (refusal ≡ reply.ErrorName) × (Place names name → ⊥)
@@ -36,7 +36,7 @@ abbrev pub Tests : Bool → Type 0 → Type 0
 Tests true Holds = Holds
 Tests false Holds = Holds → ⊥
 
--- the refusal is the step's, or the conditions hold of what the event names
+-- the refusal is that of the step, or the conditions hold for the things that the event names
 abbrev pub ChecksEvent : {X : Type 0} → Situation → LineShape → (X → Type 0) → Result X Reply → Type 0
 ChecksEvent s event Can (Err refusal) = StepOn s event (reply_text refusal) s
 ChecksEvent s event Can (Ok x) = Can x
@@ -54,7 +54,7 @@ pub record CanDelegate (s : Situation) (service : List ℕ) (x : Delegation) : T
   pub requested : s.phase ≡ Offered x.action
   pub serves : ServesHere (shown s) x.action x.seat
 
--- saw: these states of the delegate and of the environment can be judged
+-- saw: the session can judge these states of the delegate and of the environment
 pub record CanObserve (s : Situation) (state env : List ℕ) (x : Observation) : Type 0 where
   pub delegated : s.phase ≡ Delegated x.action x.seat
   pub at : slice_get (seat_names (names_in s.parts) x.seat).states x.state ≡ Some state
@@ -97,7 +97,7 @@ pub record IsNewcomer (parts : NamedSys) (x : Joining) : Type 0 where
   pub state : x.state < (beh_at parts.catalogue x.seat.behaviour).states
   pub ready : IsFalse x.seat.frozen
 
--- the state with a service more
+-- the state with one more service
 abbrev pub with_service : State → Joining → State
 with_service s x = with_services s (s.parts.seats ++ x.seat ∷ []) (s.here.bs ++ x.state ∷ [])
 

@@ -38,7 +38,8 @@ IsOpenGreat s Idle = Unit {0}
 IsOpenGreat s (Offered a) = IsGreat s × MayRequest s a
 IsOpenGreat s (Delegated a k) = IsGreat s × MayRequest s a × ServesHere s a k
 
--- all parts but the services are the library's; no two services share a name; the pair is one of the system's; an open request can be served
+-- all parts but the services are those of the library; no two services share a name; the pair is one of the system's; an open
+-- request can be served
 pub record IsState (library : PlainLibrary) (s : State) : Type 0 where
   pub parts : s.parts ≡ record (parts_of library) { seats = s.parts.seats }
   pub names : HasNoRepeats (map seat_name s.parts.seats)

@@ -45,8 +45,8 @@ abbrev pub RepairsList : Situation → List ℕ → (ℕ → model.Seat → Chan
 RepairsList old service change text new =
     (new ≡ old) ⊎ ((k : ℕ) × IsAt old service k × ((seat : model.Seat) × (slice_get (present_system old).seats k ≡ Some seat) × IsRepair old (change k seat) text new))
 
--- what an event does with the removal list: a change of the services repairs it, unless it is refused; an explanation gives the part
--- of it on which the current pair's entry rests; every other event leaves it
+-- the effect of an event on the removal list: a change of the services repairs it, unless it is refused; an explanation gives
+-- the part of it on which the current pair's entry rests; every other event leaves it
 abbrev pub ListAfter : Situation → Result LineShape LineError → List ℕ → Situation → Type 0
 ListAfter old (Ok (freeze service)) text new = RepairsList old service (change_at kind.Freeze) text new
 ListAfter old (Ok (thaw service)) text new = RepairsList old service (change_at kind.Thaw) text new
@@ -59,7 +59,7 @@ ListAfter old _ text new = new.list ≡ old.list
 
 -- ---- steps
 
--- the step of an event: a turn of the state, and what the event does with the list
+-- the step of an event: a turn of the state, and the event's effect on the list
 abbrev pub StepBy : Situation → Result LineShape LineError → List ℕ → Situation → Type 0
 StepBy old event text new = TurnsInto (shown old) event text (shown new) × ListAfter old event text new
 

@@ -21,15 +21,15 @@ use Rattle.roman_session.specs.Words.{Replies, OffersServing, CountsLost, Report
 
 -- ---- conditions
 
--- the condition holds, and the rest follows; or it doesn't hold, and the event is refused
+-- the condition holds and the rest follows, or it doesn't hold and the event is refused
 abbrev pub Needs : (Holds : Type 0) → Type 0 → (Holds → Type 0) → Type 0
 Needs Holds Refused Then = ((holds : Holds) × Then holds) ⊎ ((Holds → ⊥) × Refused)
 
--- the condition holds, and the event is refused; or it doesn't hold, and the rest follows
+-- the condition holds and the event is refused, or it doesn't hold and the rest follows
 abbrev pub Unless : Type 0 → Type 0 → Type 0 → Type 0
 Unless Holds Refused Then = (Holds × Refused) ⊎ ((Holds → ⊥) × Then)
 
--- a place at which the name stands in the list
+-- the name is at a place in the list
 abbrev pub Place : List (List ℕ) → List ℕ → Type 0
 Place names name = (i : ℕ) × (slice_get names i ≡ Some name)
 
@@ -39,8 +39,8 @@ with_services s seats bs = record { parts = record s.parts { seats = seats }; he
 
 -- ---- events
 
--- what an event does: its conditions in order, each with the reply that refuses it; then the state to which it leads, and what its answer
--- says; a line that is no event is refused
+-- the effect of an event: its conditions in order, each with the reply that refuses it; then the next state, and the meaning of
+-- the answer; a line that is no event is refused
 abbrev pub ComesTo : State → Result LineShape LineError → (Reply → Type 0) → (State → (List ℕ → Type 0) → Type 0) → Type 0
 ComesTo s (Err why) Refused Leads = Refused reply.ErrorLine
 ComesTo s (Ok nothing) Refused Leads = Leads s (λ text. text ≡ [])
@@ -103,10 +103,11 @@ ComesTo s (Ok quit) Refused Leads = Leads s (Replies reply.Bye)
 
 -- ---- turns
 
--- the event is refused with that reply, and the state stays
+-- the event is refused with that reply, and the state stays the same
 abbrev pub Refuses : State → List ℕ → State → Reply → Type 0
 Refuses s text new refusal = Replies refusal text × (new ≡ s)
 
--- an event turns the state into a new one, and the text is its answer: the reply of the first condition that fails, or what the event says
+-- an event turns the state into a new one, and the text is its answer: the reply of the first condition that fails, or the
+-- reply to an accepted event
 abbrev pub TurnsInto : State → Result LineShape LineError → List ℕ → State → Type 0
 TurnsInto s event text new = ComesTo s event (Refuses s text new) (λ next Says. Says text × (new ≡ next))

@@ -1,4 +1,4 @@
--- What a session's answers say, in terms of the greatest ND-simulation, steps and names.
+-- The meaning of a session's answers, in terms of the greatest ND-simulation, steps and names.
 use Rattle.std.specs.Prelude.{◌≡◌, ℕ, ◌+◌, ◌<◌, Bool, List, [], ◌∷◌, ◌++◌, map, length, codes, Option, Some, IsTrue, IsFalse, ◌↔◌, slice_get}
 use Rattle.std.specs.List.{flat_map}
 use Rattle.roman_model.specs.Lists.{IsIn, IsSublist, below}
@@ -27,7 +27,7 @@ Replies said text = text ≡ reply_text said
 
 -- ---- offers
 
--- exactly the services that serve the action, in their order
+-- exactly the services that serve the action, in the order of their places
 pub record AreServing (s : State) (a : ℕ) (ks : List ℕ) : Type 0 where
   pub order : IsSublist ks (below (length (system_of s.parts).seats))
   pub exact : (k : ℕ) → IsIn k ks ↔ ((k < length (system_of s.parts).seats) × ServesHere s a k)
@@ -49,8 +49,8 @@ pub record CountsLost (s : State) (text : List ℕ) : Type 0 where
 
 -- ---- reports
 
--- the report tells how many pairs are related and whether the current one is; if it is, also the services that serve each action
--- that the target allows
+-- the report states how many pairs are related and whether the current one is; if it is, also the services that serve each
+-- action that the target allows
 pub record ReportsGreat (s : State) (text : List ℕ) : Type 0 where
   pub related : ℕ
   pub counted : Counts (system_of s.parts) (Great (system_of s.parts)) related

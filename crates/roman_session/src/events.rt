@@ -1,4 +1,4 @@
-//! What accepted events name.
+//! The actions, services, states and names that accepted events give.
 
 use roman_joint::Seat;
 

@@ -1,9 +1,9 @@
-//! Sessions: each line is an event, and the session writes the reply to it.
+//! Sessions. Each line is an event, and the session writes the reply to it.
 //!
 //! A session holds the services now present with the greatest relation of their system, the present
 //! states of the target, the environment and the services, and the open request. Contracts see a
-//! session as a situation, and an answer as one step from a situation to another: a turn of its state
-//! (`specs/Turns`), and what the event does with its removal list (`specs/Steps`).
+//! session as a situation, and an answer as one step from a situation to the next. A step is a turn
+//! of the session's state (`specs/Turns`) and a change of its removal list (`specs/Steps`).
 #![tactic(auto)]
 
 mod events;

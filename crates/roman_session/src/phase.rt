@@ -1,7 +1,8 @@
 //! The phases of a session.
 
-/// What a session waits for. An action is given by its number in the library, which has combined actions
-/// if there are several targets. A service is given by its place. Both count from 0.
+/// The phase of a session: whether a request is open, and how far it is. An action is given by its
+/// number in the library, which has combined actions if there are several targets. A service is
+/// given by its place. Both count from 0.
 #[derive(Clone, Copy, Debug, PartialEq, Eq)]
 pub enum Phase {
     /// No request is open.

@@ -1,4 +1,4 @@
-//! Sessions: their parts, and the calls that read them.
+//! The parts of a session, and the calls that read them.
 ghost use Rattle.std.specs.Prelude.{◌≡◌, ◌≢◌, ℕ, ◌<◌, length, Some, slice_get, slice_index};
 ghost use Rattle.roman_model.specs.System.{IsPair, has};
 ghost use Rattle.roman_model.specs.SystemArena.{pairs, is_allowed};
@@ -49,7 +49,7 @@ pub struct Session {
     mask: SeatSet,
 }
 
-// One call. At each exit of a function that owns a session, a derived drop would be a step for each vector.
+// Replaces the derived drop, which adds a proof step for each vector to every exit.
 impl Drop for Session {
     fn drop(self) {
         let Session {
@@ -76,7 +76,6 @@ impl Model for Session {
     ghost invariant = { IsSession };
 }
 
-/// Returns the number of a pair of the system.
 fn number_of(joint: &Joint, t: u8, e: u8, states: &[u8]) -> u32
     requires { IsPair (named.system_of joint.now) (record { t = t; e = e; bs = states.now }) }
     ensures { result ≡ number (sizes_of (named.system_of joint.now)) (record { t = t; e = e; bs = states.now }) }
@@ -107,8 +106,9 @@ impl Session {
         self.relation().related(self.here())
     }
 
-    /// Returns the phase. While a request is open, the current pair is related, and the target allows
-    /// the action there. The delegate is one of the services that are offered for the action.
+    /// Returns the phase. While a request is open, the current pair is related, and the target
+    /// allows the action there. The delegate is one of the services that are offered for the
+    /// action.
     pub fn phase(&self) -> Phase
         ensures phase { result ≡ self.now.phase }
         ensures holds { IsPhase self.now result }
@@ -116,7 +116,7 @@ impl Session {
         self.phase
     }
 
-    /// Does nothing. Its contract states what holds of every session.
+    /// Does nothing. Its contract states that the situation is well formed.
     pub fn known(&self)
         ensures { IsSituation self.now }
     {
@@ -163,7 +163,6 @@ impl Session {
         self.states[k as usize]
     }
 
-    /// Returns whether the target allows the action `a` at the current pair.
     fn allows(&self, a: u8) -> bool
         requires { a < (present_system self.now).env.actions }
         ensures { result ≡ is_allowed (present_system self.now) self.now.here a }
@@ -220,14 +219,12 @@ impl Session {
         self.env
     }
 
-    /// Returns the name of the target's present state.
     fn target_name(&self) -> &Name
         ensures { result.now ≡ name_at self.now.parts.target.states self.now.here.t }
     {
         self.joint().target_name(self.target)
     }
 
-    /// Returns the name of the environment's present state.
     fn env_name(&self) -> &Name
         ensures { result.now ≡ name_at self.now.parts.environment.states self.now.here.e }
     {

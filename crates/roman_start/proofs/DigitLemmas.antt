@@ -1,16 +1,16 @@
--- Numbers by their decimal digits: one digit more, and the digits of a product.
+-- Numbers by their decimal digits: one more digit, and the digits of a product.
 use Rattle.roman_start.proofs.Common.{◌≡◌, ℕ, ◌+◌, ◌*◌, ◌/◌, ◌%◌, ◌^◌, ◌<◌, ◌≤◌, min, List, [], ◌∷◌, ◌++◌, length, length-append, get_or, take, sym, ap, ap₂, ◌∙◌, arith, add-one, zero, suc, nat_le, length-take-le, take_more, AllDigits, digits_value, product_of, AreDigits, number_with_digits, pow-zero, pow-suc, min-eq_left, min-eq_right, mul-le-mul_right, leb-true, leb-false, digit_value, digits_value_push, All-push, digit_value_digit, by_test}
 
 number_push : (ds : List ℕ) (d : ℕ) → number_with_digits (ds ++ d ∷ []) ≡ number_with_digits ds + d * 10 ^ length ds
 number_push [] d = omega (arith, ap (λ x. d * x) (pow-zero 10))
 number_push (x ∷ ds) d = omega (arith, number_push ds d, ap (λ x. d * x) (pow-suc 10 (length ds)))
 
--- one more of the digits
+-- the value of one more digit
 number_more : (ds : List ℕ) (k d other : ℕ) → k < length ds → d ≡ get_or ds k other → number_with_digits (take (k + 1) ds) ≡ number_with_digits (take k ds) + d * 10 ^ k
 number_more ds k d other l at =
     ap number_with_digits (take_more ds k other l) ∙ number_push (take k ds) _ ∙ ap₂ (λ (d n : ℕ). number_with_digits (take k ds) + d * 10 ^ n) (sym at) (length-take-le k ds (omega arith))
 
--- the last digit of the carry is appended to the digits, and the rest is carried on
+-- the last digit of the carry is appended to the digits, and the rest is the new carry
 pub carry_step : (ds : List ℕ) (s total : ℕ) → number_with_digits ds + s * 10 ^ length ds ≡ total →
     number_with_digits (ds ++ (s % 10) ∷ []) + s / 10 * 10 ^ length (ds ++ (s % 10) ∷ []) ≡ total
 carry_step ds s total h =
@@ -19,7 +19,7 @@ carry_step ds s total h =
     let parts : s ≡ s / 10 * 10 + s % 10 = omega arith in
     omega (arith, h, number_push ds (s % 10), ap (λ x. s / 10 * x) power, ap (λ x. x * p) parts)
 
--- one digit is multiplied by a factor
+-- multiplying one digit by a factor
 pub times_step : (ds items : List ℕ) (k d other f carry : ℕ) → k < length ds → d ≡ get_or ds k other → length items ≡ k → number_with_digits items + carry * 10 ^ length items ≡ number_with_digits (take k ds) * f →
     number_with_digits items + (d * f + carry) * 10 ^ length items ≡ number_with_digits (take (k + 1) ds) * f
 times_step ds items k d other f carry l at long h =

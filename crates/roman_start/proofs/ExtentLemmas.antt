@@ -2,7 +2,7 @@
 use Rattle.roman_start.proofs.Common.{◌≡◌, ℕ, ◌+◌, ◌*◌, ◌<◌, List, [], ◌∷◌, ◌++◌, map, length, get_or, take, refl, sym, ap, ap₂, ◌∙◌, subst, arith, All, take_more, map_push, product_of, states_in, sizes_of, NamedBeh, cells, system_of, seat_beh_read, PlainLibrary, IsService, Service, parts_of}
 use Rattle.roman_start.proofs.DigitLemmas.{product_push}
 
--- one more service and its size
+-- the size of one more service
 module _ (library : PlainLibrary) (known : All (IsService library.catalogue) library.services) (k : ℕ) (x : Service) (y : NamedBeh) where
   pub sizes_push : (sizes : List ℕ) (size : ℕ) → k < length library.services → x ≡ get_or library.services k x → y ≡ get_or library.catalogue x.behaviour y → size ≡ y.beh.states →
       sizes ≡ map (states_in library) (take k library.services) → sizes ++ size ∷ [] ≡ map (states_in library) (take (k + 1) library.services)

@@ -19,12 +19,12 @@ pub record IsExtent (library : PlainLibrary) (extent : Extent) : Type 0 where
   pub cells : product_of extent.sizes.items ≡ cells (system_of (parts_of library))
   pub limit : extent.limit ≡ library.limit
 
--- the extent is that of an accepted library; a refused library has none
+-- the extent is that of an accepted library; a refused document has no extent
 abbrev pub IsExtentOf : Extent → Result PlainLibrary Refusal → Type 0
 IsExtentOf extent (Ok library) = IsExtent library extent
 IsExtentOf extent (Err refusal) = ⊥
 
--- a returned extent is that of the library that the document means; an error means what it does when a document is loaded
+-- a returned extent is that of the library that the document means; an error is one that loading the document returns
 abbrev pub Measures : Result Extent LoadError → Result PlainLibrary Refusal → Type 0
 Measures (Ok extent) reading = IsExtentOf extent reading
 Measures (Err e) reading = Stops e reading

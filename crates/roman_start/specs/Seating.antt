@@ -1,4 +1,4 @@
--- The seating of a library, and its error.
+-- The result of seating a library, and its error.
 use Rattle.std.specs.Prelude.{◌≡◌, ◌<◌, ◌≤◌, Result, Ok, Err, vec_capacity}
 use Rattle.roman_model.specs.System.{IsPair}
 use Rattle.roman_model.specs.Numbers.{sizes_of, count, number}

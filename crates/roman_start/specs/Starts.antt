@@ -24,7 +24,7 @@ parts_of library = record {
   limit = library.limit;
 }
 
--- the states in which the parts and services of the library start
+-- the states in which the library's parts and services start
 abbrev pub start_pair_of : PlainLibrary → Pair
 start_pair_of library = record {
   t = library.target.beh.start;

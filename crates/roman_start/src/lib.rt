@@ -1,11 +1,11 @@
-//! The start of a library: its system, as a joint, and the number of its start pair.
+//! The start of a library: the joint of its system, and the number of its start pair.
 //!
 //! Sessions, certificates, checks and all computations on a document begin here. `specs/Starts`
-//! defines the system of a library and the states in which it starts, and `specs/Seating` the result
-//! of seating a library.
+//! defines the system of a library and the states in which it starts, and `specs/Seating` the
+//! result of seating a library.
 //!
 //! [`extent_of`] returns the sizes of a document's system, whether or not the system is within its
-//! limit, and [`product`] multiplies them to the number of cells (`specs/Extents`, `specs/Digits`).
+//! limit. [`product`] multiplies them to the number of cells (`specs/Extents`, `specs/Digits`).
 #![tactic(auto)]
 
 mod extent;

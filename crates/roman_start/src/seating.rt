@@ -26,8 +26,8 @@ pub struct Seated {
 }
 
 /// Builds the system of a library, with its start pair. Fails with `Limit` exactly when the system
-/// has more cells (pairs times actions) than the limit of the library. Fails with `Memory` only when
-/// out of memory.
+/// has more cells (pairs times actions) than the limit of the library. Fails with `Memory` only
+/// when out of memory.
 pub fn seat_library(alloc: Global, library: Library) -> Result<Seated, JointError>
     requires { IsLibrary (plain library) }
     ensures seated { IfOk result (IsSeated (plain library)) }
@@ -51,7 +51,6 @@ pub fn seat_library(alloc: Global, library: Library) -> Result<Seated, JointErro
     })
 }
 
-/// Returns the seats of the services in the system.
 fn seats_of(alloc: Global, services: &[Service]) -> Result<Vec<Seat>, AllocError>
     ensures { IfOk result (λ seats. seats.items ≡ map seat_of_service services.now) }
 {
@@ -77,8 +76,8 @@ fn states_of(alloc: Global, services: &[Service]) -> Result<Vec<u8>, AllocError>
     Ok(states)
 }
 
-/// Returns the number of the pair with the start states of the target and the environment, and these
-/// states of the services.
+/// Returns the number of the pair with the start states of the target and the environment, and
+/// these states of the services.
 fn start_of(joint: &Joint, states: &[u8]) -> u32
     requires { IsPair (system_of joint.now) (starting joint.now states.now) }
     ensures number { result ≡ number (sizes_of (system_of joint.now)) (starting joint.now states.now) }

@@ -1,4 +1,4 @@
--- What the proof pages of this crate cite from elsewhere, passed on from one place. Declares nothing.
+-- Re-exports the names that the proof pages of this crate use from other crates. Declares nothing.
 pub use Rattle.std.proofs.Common.{Bool, Err, IsErrAnd, List, None, Ok, Option, Result, Some, [], ap, append_assoc, ap₂, arith, codes, cond, drop, drop-cons, false, filter, get_or, inl, inr, length, length-drop, length-take-le, map, min, nat_eq, not, refl, subst, suc, sym, take, take-add, true, unwrap_or, w8, zero, ℕ, ◌&&◌, ◌++◌, ◌+◌, ◌-◌, ◌<◌, ◌==◌, ◌||◌, ◌∙◌, ◌∷◌, ◌≡◌, ◌≢◌, ◌≤◌}
 pub use Rattle.std.proofs.Math.Dec.{ltb}
 pub use Rattle.std.proofs.lemmas.Bool.{both_ways, cond-true, lt-ltb, or_from}

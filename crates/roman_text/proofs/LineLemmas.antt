@@ -4,7 +4,7 @@ use Rattle.roman_text.proofs.WordLemmas.{none_at, some_at}
 
 -- ---- lines
 
--- one more byte at the beginning: a line of its own, a part of the first line, or a part of the rest where no newline follows
+-- one more byte at the beginning is a line of its own, or a part of the first line, or a part of the rest if no newline follows
 one_more : (b c : Bool) (byte : ℕ) (bytes rest : List ℕ) (ls : List (List ℕ)) → (byte == 10) ≡ b → has bytes 10 ≡ c → IsSplit bytes ls rest → (c ≡ false → ls ≡ []) →
     IsSplit (byte ∷ bytes) (cond b ([] ∷ ls) (onto_ended_line byte ls)) (cond (b || c) rest (byte ∷ bytes))
 one_more true c byte bytes rest ls e some split none = grind arith
@@ -32,14 +32,14 @@ lines_only bytes ls rest split = (same, append_cancel_left (text_of_lines ls) re
     texts : text_of_lines ls ++ rest ≡ text_of_lines ls ++ unfinished bytes
     texts = sym split.whole ∙ (lines_are bytes).whole ∙ ap (λ ls. text_of_lines ls ++ unfinished bytes) (sym same)
 
--- the lines of a text that goes on: those that have ended stay, and the unfinished one goes on
+-- if a text continues, its ended lines stay, and its unfinished line continues
 pub ended_lines-append : (xs ys : List ℕ) → ended_lines (xs ++ ys) ≡ ended_lines xs ++ ended_lines (unfinished xs ++ ys)
 ended_lines-append xs ys =
     let split = lines_are xs in
     ap (λ (bytes : List ℕ). ended_lines (bytes ++ ys)) split.whole ∙ ap ended_lines (append_assoc (text_of_lines (ended_lines xs)) (unfinished xs) ys)
     ∙ ended_lines-text (ended_lines xs) (unfinished xs ++ ys) split.each
 
--- one more byte that is a newline: the unfinished line has ended
+-- one more byte that is a newline ends the unfinished line
 newline_split : (bytes : List ℕ) (byte : ℕ) → is_newline byte ≡ true → IsSplit (bytes ++ byte ∷ []) (ended_lines bytes ++ unfinished bytes ∷ []) []
 newline_split bytes byte e = record {
   whole =
@@ -59,7 +59,7 @@ ended_lines-newline bytes byte e = sym (lines_only _ _ _ (newline_split bytes by
 pub unfinished-newline : (bytes : List ℕ) (byte : ℕ) → is_newline byte ≡ true → unfinished (bytes ++ byte ∷ []) ≡ []
 unfinished-newline bytes byte e = sym (lines_only _ _ _ (newline_split bytes byte e)).1
 
--- more bytes without a newline: the unfinished line goes on
+-- more bytes without a newline continue the unfinished line
 part_split : (bytes part : List ℕ) → IsLine part → IsSplit (bytes ++ part) (ended_lines bytes) (unfinished bytes ++ part)
 part_split bytes part is =
     let split = lines_are bytes in
@@ -81,12 +81,12 @@ unfinished-nil = refl
 
 -- ---- the first newline
 
--- the bytes before the first newline have none
+-- the bytes before the first newline have no newline
 line_until : (bytes : List ℕ) → IsLine (take (position_or_len is_newline bytes) bytes)
 line_until [] = refl
 line_until (x ∷ xs) = (let next : 1 + position_or_len is_newline xs ≡ suc (position_or_len is_newline xs) = omega arith in by_test (is_newline x) (λ t. rw t refl) (λ f. rw (f, next) (or_from (x == 10) (has (take (position_or_len is_newline xs) xs) 10) f (line_until xs))))
 
--- without a first newline there is none
+-- without a first newline the bytes have no newline
 pub no_newline : (bytes : List ℕ) → position is_newline bytes ≡ None → IsLine bytes
 no_newline bytes e = subst IsLine (take_all _ bytes (none_at is_newline bytes e)) (line_until bytes)
 
@@ -101,7 +101,7 @@ first_newline bytes i e =
 
 -- ---- the kept part of a line
 
--- more bytes: the kept part decides the new kept part
+-- the kept part and more bytes decide the new kept part
 pub kept-append : (line part : List ℕ) → kept (kept line ++ part) ≡ kept (line ++ part)
 unfolding kept
 kept-append line part = first_bytes 257 line where
@@ -110,7 +110,7 @@ kept-append line part = first_bytes 257 line where
   first_bytes (suc n) [] = refl
   first_bytes (suc n) (x ∷ xs) = ap (λ (rest : List ℕ). x ∷ rest) (first_bytes n xs)
 
--- a kept part has no other kept part
+-- the kept part of a kept part is the same
 pub kept-again : (line whole : List ℕ) → line ≡ kept whole → kept line ≡ kept whole
 kept-again line whole e = ap kept (sym (append-nil line) ∙ ap (λ (held : List ℕ). held ++ []) e) ∙ kept-append whole [] ∙ ap kept (append-nil whole)
 
@@ -135,7 +135,7 @@ unfolding kept
 kept-empty [] h = refl
 kept-empty (x ∷ xs) h = absurd (omega (arith, length-take 257 (x ∷ xs)))
 
--- the bytes that are held, and those that have room after them, are kept
+-- the held bytes, and the next ones for which there is room, are the kept part
 pub hold_room : (held bytes : List ℕ) (n room : ℕ) → n ≡ min (length bytes) room → room + length held ≡ 257 → held ++ take n bytes ≡ kept (held ++ bytes)
 unfolding kept
 hold_room held bytes n room e full = go 257 held full where

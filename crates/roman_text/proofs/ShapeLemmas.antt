@@ -3,12 +3,12 @@ use Rattle.roman_text.proofs.Common.{Bool, Err, List, Ok, Result, [], ap, arith,
 use borrow.Author.Tests.{lt-ltb}
 use Rattle.roman_text.proofs.LineLemmas.{kept-short, length-kept}
 
--- a longer line
+-- a line of more than 256 bytes is an error
 pub too_long : (line : List ℕ) → 256 < length line → shape_of line ≡ Err TooLong
 unfolding shape_of
 too_long line h = rw (lt-ltb 256 (length line) h)
 
--- a line of at most 256 bytes
+-- the words of a line of at most 256 bytes decide its shape
 pub shape_by_words : (line : List ℕ) → length line ≤ 256 → shape_of line ≡ shape_of_words (words_of (strip_carriage_return line))
 unfolding shape_of
 shape_by_words line h = rw (le-ltb 256 (length line) h)
@@ -21,7 +21,7 @@ kept_step false line e = grind (arith, kept-short)
 pub shape_of_kept : (line : List ℕ) → shape_of (kept line) ≡ shape_of line
 shape_of_kept line = kept_step (ltb 256 (length line)) line refl
 
--- a line without words
+-- a line without words has the shape that gets no reply
 pub shape_of_blank : (line text : List ℕ) → length line ≤ 256 → text ≡ strip_carriage_return line → words_of text ≡ [] → shape_of line ≡ Ok nothing
 shape_of_blank line text h t e = shape_by_words line h ∙ ap shape_of_words (ap words_of (sym t) ∙ e)
 
@@ -31,13 +31,13 @@ comment_step b word more e h = rw (e, h)
 words_step : (word : List ℕ) (more : List (List ℕ)) → is_comment word ≡ false → shape_of_words (word ∷ more) ≡ by_words word more
 words_step word more e = rw e
 
--- a comment
+-- a comment has the shape that gets no reply
 pub shape_of_comment : (line text word : List ℕ) (more : List (List ℕ)) → length line ≤ 256 → text ≡ strip_carriage_return line → words_of text ≡ word ∷ more
     → is_comment word ≡ true → shape_of line ≡ Ok nothing
 shape_of_comment line text word more h t e is =
     shape_by_words line h ∙ (ap shape_of_words (ap words_of (sym t) ∙ e) ∙ comment_step true word more is refl)
 
--- any other line
+-- the first word of any other line selects its shape
 pub shape_of_event_line : (line text word : List ℕ) (more : List (List ℕ)) → length line ≤ 256 → text ≡ strip_carriage_return line → words_of text ≡ word ∷ more
     → is_comment word ≡ false → shape_of line ≡ by_words word more
 shape_of_event_line line text word more h t e is =
@@ -53,7 +53,7 @@ abbrev looked_up : List (List ℕ × LineShape) → List ℕ → Result LineShap
 looked_up [] w = Err Form
 looked_up (key ∷ keys) w = cond (bytes_eq w key.0) (Ok key.1) (looked_up keys w)
 
--- each word of the table spells its event, with these operands
+-- each word of the table spells its event with these operands
 abbrev Spell : List (List ℕ) → List (List ℕ × LineShape) → Type 0
 Spell args [] = Unit {0}
 Spell args (key ∷ keys) = (key.0 ∷ args ≡ spelling key.1) × Spell args keys

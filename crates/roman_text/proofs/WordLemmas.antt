@@ -93,5 +93,5 @@ word_first line rest a b i j found is_rest is_end is_a is_b =
     let is_mark : is_blank (get_or line n 0) ≡ false = not-true (is_blank (get_or line n 0)) (passes_at_first is_part line 0 at.1) in
     here ∙ rw (is_a, is_b, is_end) (word_in rest (get_or line n 0) (drop (suc n) line) begins is_mark)
 
--- where a word ends
+-- the end of a word
 pub ruleset places = (unwrap_or-position, position_or_len-le)

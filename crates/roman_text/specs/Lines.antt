@@ -1,4 +1,4 @@
--- The lines of the bytes of a stream so far.
+-- The lines of a stream, from the bytes that arrived so far.
 use Rattle.std.specs.Prelude.{◌≡◌, ℕ, Bool, ◌==◌, List, [], ◌∷◌, ◌++◌, take, Option, None, Some, if◌then◌else◌}
 use Rattle.std.specs.Borrow.{Bor}
 use Rattle.roman_model.specs.System.{has}
@@ -17,7 +17,7 @@ unfinished (byte ∷ bytes) = if has (byte ∷ bytes) 10 then unfinished bytes e
 abbrev pub with_newline : List ℕ → List ℕ
 with_newline line = line ++ 10 ∷ []
 
--- the bytes are these lines, each with its newline, and then a rest without one
+-- the bytes are these lines, each with its newline, followed by a rest without a newline
 pub record IsSplit (bytes : List ℕ) (lines : List (List ℕ)) (rest : List ℕ) : Type 0 where
   pub whole : bytes ≡ text_of_lines lines ++ rest
   pub each : AreLines lines

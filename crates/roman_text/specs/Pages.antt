@@ -14,6 +14,6 @@ abbrev pub Gathers : {T E : Type 0} → Option (List ℕ) → Option (List ℕ) 
 Gathers old new held text (Ok x) = Gathered old new held text
 Gathers old new held text (Err e) = WrotePrefix old new text × (held ≡ [])
 
--- the same of a page that held `before` and then took the text, in words for contracts at a bound `O: Sink`
+-- the page held `before` and then took the text, with these results, in words for contracts at a bound `O: Sink`
 abbrev pub Pushes : {X T E : Type 0} → SinkView X → X → X → List ℕ → List ℕ → List ℕ → Result T E → Type 0
 Pushes O old new before after text result = Gathers (O.written old) (O.written new) after (before ++ text) result

@@ -30,7 +30,7 @@ reply_text reply.ErrorFull = with_newline (codes "error full")
 reply_text reply.ErrorLimit = with_newline (codes "error limit")
 reply_text reply.ErrorRelated = with_newline (codes "error related")
 
--- the number of a refusal, or None for any other reply
+-- the number of a refusal; None for any other reply
 abbrev pub refusal_number : Reply → Option ℕ
 refusal_number reply.ErrorLine = Some 1
 refusal_number reply.ErrorName = Some 2

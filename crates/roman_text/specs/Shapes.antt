@@ -142,7 +142,7 @@ abbrev pub Shapes : Result LineShape LineError → Result Event LineError → Ty
 Shapes shape (Ok e) = shape ≡ Ok (shape_of_event e)
 Shapes shape (Err why) = shape ≡ Err why
 
--- the first word of a line and what follows it, or none if the line has no word
+-- the first word of a line and the bytes after it, or none if the line has no word
 abbrev pub IsFirstWord : List ℕ → Option (Bor (List ℕ) × Bor (List ℕ)) → Type 0
 IsFirstWord line None = words_of line ≡ []
 IsFirstWord line (Some first) = words_of line ≡ first.0.now ∷ words_of first.1.now

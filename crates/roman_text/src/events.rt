@@ -1,6 +1,6 @@
 //! The events of a session.
 
-/// The event of a session line. Its words are parts of the line, and haven't been looked up.
+/// The event of a session line. Its words are slices of the line, and aren't looked up yet.
 #[derive(Clone, Copy, Debug, PartialEq, Eq)]
 pub enum Event<'a> {
     /// A line without words, or a comment. It gets no reply.
@@ -16,7 +16,7 @@ pub enum Event<'a> {
         /// The environment's new state.
         env: &'a [u8],
     },
-    /// `abort`: the open request is given up.
+    /// `abort`: the target gives up the open request.
     Abort,
     /// `freeze S`: the service takes no more delegations for now.
     Freeze(&'a [u8]),
@@ -35,18 +35,18 @@ pub enum Event<'a> {
         /// Whether the service never needs to be in a final state.
         loose: bool,
     },
-    /// `jump S STATE`: the service is in this state, whatever its transitions say.
+    /// `jump S STATE`: the service is in this state, even if no transition leads there.
     Jump {
         /// The service's name.
         service: &'a [u8],
         /// The service's new state.
         state: &'a [u8],
     },
-    /// `jumpenv E`: the environment is in this state, whatever its transitions say.
+    /// `jumpenv E`: the environment is in this state, even if no transition leads there.
     JumpEnv(&'a [u8]),
     /// `report`: requests the whole report.
     Report,
-    /// `explain`: requests an explanation why the current pair isn't related.
+    /// `explain`: requests an explanation of why the current pair isn't related.
     Explain,
     /// `quit`: the session ends.
     Quit,

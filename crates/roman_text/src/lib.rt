@@ -1,9 +1,9 @@
 //! Session lines, replies and report lines as bytes.
 //!
-//! [`split_line`] finds the lines of a stream of bytes, and a [`Splitter`] holds a line that comes in several pieces.
-//! [`parse_line`] parses a line into an event. [`put_reply`] and [`put_report_line`] write a line to a
-//! sink at once, and a [`Page`] gathers many of them. A [`Piece`] is a short text built from words,
-//! names and numbers. No call takes memory.
+//! [`split_line`] finds the lines of a stream of bytes, and a [`Splitter`] holds a line that comes
+//! in several pieces. [`parse_line`] parses a line into an event. [`put_reply`] and
+//! [`put_report_line`] write a line to a sink at once, and a [`Page`] gathers many of them. A
+//! [`Piece`] is a short text built from words, names and numbers. No call allocates memory.
 #![tactic(auto)]
 
 mod errors;

@@ -8,14 +8,14 @@ use roman_model::MAX_LINE_BYTES;
 use std::marker::Model;
 use std::simd::prelude::*;
 
-/// One byte more than the greatest length of a line, so that a longer line is recognised.
+/// The greatest length of a line and one byte more, so that longer lines are recognised.
 const KEPT: usize = MAX_LINE_BYTES as usize + 1;
 
 /// The number of bytes that are searched at once for a newline.
 const LANES: usize = 16;
 
-/// Holds the current line of a stream of bytes, however the stream is split into pieces. Contracts see
-/// the held bytes of the line: its first 257, which decide its shape.
+/// Holds the current line of a stream of bytes, however the stream is split into pieces. Contracts
+/// see the held bytes: the first 257 of the line, which decide its shape.
 #[derive(Drop)]
 pub struct Splitter {
     bytes: [u8; KEPT],
@@ -32,8 +32,8 @@ impl Model for Splitter {
     ghost invariant = { λ s. s.len ≤ 257 };
 }
 
-/// Returns the bytes before the first byte 10 and the bytes after it. Returns `None` exactly when there
-/// is no byte 10.
+/// Returns the bytes before the first byte 10 and the bytes after it. Returns `None` exactly when
+/// there is no byte 10.
 pub fn split_line(bytes: &[u8]) -> Option<(&[u8], &[u8])>
     ensures { IsFirstLine bytes.now result }
 {
@@ -81,8 +81,9 @@ impl Splitter {
         }
     }
 
-    /// Takes the next byte of the stream. Returns whether it ended the line: whether it is byte 10. The
-    /// ended line is held, without that byte, until [`Splitter::clear`]. Call that before the next byte.
+    /// Takes the next byte of the stream. Returns whether it is byte 10, which ends the line. The
+    /// splitter then holds the ended line, without that byte. Call [`Splitter::clear`] before the
+    /// next byte.
     pub fn push(&mut self, byte: u8) -> bool
         ensures ends { result ≡ is_newline byte }
         ensures whole { OnTrue result (self.new ≡ self.old) }

@@ -26,8 +26,8 @@ const NAME: usize = MAX_NAME_BYTES as usize;
 /// The length in bytes of the array that [`Page::push_short`] takes.
 pub const SHORT: usize = 16;
 
-/// A buffer of 4,096 bytes before a sink, so that many short texts are written as one piece. Contracts
-/// see the held bytes; the sink has the bytes before them. A call fails only when the sink's count of
+/// A buffer of 4,096 bytes before a sink, which writes many short texts as one piece. Contracts see
+/// the held bytes. The sink has the bytes before them. A call fails only when the sink's count of
 /// faults rose.
 #[derive(Drop)]
 pub struct Page {
@@ -58,7 +58,7 @@ impl Page {
     }
 
     /// Appends bytes to the held bytes. Writes the held bytes first if there is no room for the new
-    /// ones. A failed call leaves the page empty, and a prefix of all these bytes in the sink.
+    /// ones. If the call fails, the page is empty, and a prefix of all these bytes was written.
     #[inline]
     #[tactic(auto, using(crate::proofs::PageLemmas::in_pieces))]
     pub fn push<O: Sink>(&mut self, bytes: &[u8], out: &mut O) -> Result<(), Failed>
@@ -78,7 +78,7 @@ impl Page {
     }
 
     /// Writes the held bytes, as one piece, and leaves the page empty. Writes nothing if no bytes
-    /// are held. If the sink fails, the page is empty too, and a prefix of the piece was written.
+    /// are held. If the sink fails, the page is empty, and a prefix of the piece was written.
     pub fn flush<O: Sink>(&mut self, out: &mut O) -> Result<(), Failed>
         ensures puts { WritesTo O.Sink out.old out.new self.old result }
         ensures empty { self.new ≡ [] }
@@ -134,8 +134,8 @@ impl Page {
         Ok(())
     }
 
-    /// Appends a byte and a name after it, as [`Page::push`] appends bytes. Writes the held bytes first
-    /// if fewer than 128 bytes of the page are free.
+    /// Appends a byte and a name after it, as [`Page::push`] appends bytes. Writes the held bytes
+    /// first if fewer than 128 bytes of the page are free.
     #[inline]
     #[tactic(auto, using(crate::proofs::PageLemmas::in_pieces))]
     pub fn push_name<O: Sink>(&mut self, before: u8, name: &Name, out: &mut O) -> Result<(), Failed>
@@ -222,8 +222,8 @@ impl Page {
         self.len += name.bytes().len();
     }
 
-    /// Adds a name, with bytes before it and after it. Requires room for these bytes and the longest
-    /// name.
+    /// Adds a name, with bytes before it and after it. Requires room for these bytes and the
+    /// longest name.
     #[inline]
     fn add_name(&mut self, before: &[u8], name: &Name, behind: &[u8])
         requires { length self.old + length before.now + length behind.now + MAX_NAME_BYTES ≤ PIECE_BYTES }

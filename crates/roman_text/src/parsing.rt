@@ -1,5 +1,5 @@
-//! Parses lines into events. All calls are inlined, so that an event is matched where it is made and isn't
-//! copied.
+//! Parses lines into events. All calls are inlined, so that an event is matched where it is made
+//! and isn't copied.
 ghost use Rattle.std.specs.Prelude.{◌≡◌, ◌<◌, ◌↔◌, codes, length, if◌then◌else◌};
 ghost use Rattle.std.specs.Str.{bytes_eq};
 ghost use Rattle.roman_text.specs.Shapes.{Shapes, shape_of, words_of, by_words, alone, with_one, with_two, join};
@@ -9,14 +9,14 @@ use crate::events::Event;
 use crate::words::{first_word, is_comment, without_return};
 use roman_model::MAX_LINE_BYTES;
 
-/// Parses a line, given without its newline, into its event. The words of the event are parts of the
-/// line, and aren't looked up.
+/// Parses a line, given without its newline, into its event. The words of the event are parts of
+/// the line, and aren't looked up.
 ///
-/// Ignores one byte 13 at the end of the line. Words are separated by spaces and tabs. A line without
-/// words, and a line whose first word begins with `#`, are [`Event::Nothing`].
+/// Ignores one byte 13 at the end of the line. Words are separated by spaces and tabs. A line
+/// without words, and a line whose first word begins with `#`, are [`Event::Nothing`].
 ///
-/// Fails with `TooLong` exactly when the line has more than 256 bytes. Fails with `Form` exactly when
-/// it has at most 256 bytes and its words aren't those of an event.
+/// Fails with `TooLong` exactly when the line has more than 256 bytes. Fails with `Form` exactly
+/// when it has at most 256 bytes and its words aren't those of an event.
 #[inline(always)]
 #[tactic(auto, using(crate::proofs::ShapeLemmas::too_long, crate::proofs::ShapeLemmas::shape_of_blank, crate::proofs::ShapeLemmas::shape_of_comment, crate::proofs::ShapeLemmas::shape_of_event_line))]
 pub fn parse_line(line: &[u8]) -> Result<Event<'_>, LineError>

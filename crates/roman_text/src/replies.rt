@@ -4,8 +4,8 @@ ghost use Rattle.roman_text.specs.Replies.{refusal_number};
 
 use roman_read::Name;
 
-/// A reply to a session line: one whole line, or a part of one. `Offer`, `Serves` and `Stop` together
-/// make the line that offers services. The last fourteen variants are refusals.
+/// A reply to a session line: one whole line, or a part of one. `Offer`, `Serves` and `Stop`
+/// together make the line that offers services. The last fourteen variants are refusals.
 #[derive(Clone, Copy, Debug, PartialEq, Eq)]
 pub enum Reply {
     /// The beginning of the line that offers services.

@@ -5,8 +5,8 @@ ghost use Rattle.roman_text.specs.Report.{line_text};
 use crate::piece::Piece;
 use roman_read::Name;
 
-/// A whole line of a report, or a part of one: `Offer`, `Serves` and `Stop` together make the line that
-/// lists services.
+/// A whole line of a report, or a part of one: `Offer`, `Serves` and `Stop` together make the line
+/// that lists services.
 #[derive(Clone, Copy, Debug, PartialEq, Eq)]
 pub enum ReportLine {
     /// The number of pairs of the system.
@@ -84,7 +84,7 @@ pub fn report_piece(line: &ReportLine) -> Piece
     }
 }
 
-/// Returns the first text where the test holds, and the second otherwise.
+/// Returns the first text if the test is true, and the second otherwise.
 fn either(test: bool, yes: &'static [u8], no: &'static [u8]) -> &'static [u8]
     ensures text { result.now ≡ (if test then yes.now else no.now) }
     ensures short { length result.now ≤ length yes.now + length no.now }

@@ -4,7 +4,7 @@ ghost use Rattle.std.specs.List.{position_or_len};
 ghost use Rattle.std.specs.Str.Lines.{strip_carriage_return};
 ghost use Rattle.roman_text.specs.Shapes.{IsFirstWord, is_blank, is_comment, is_part};
 
-/// Returns whether the byte separates words. Most bytes are greater than the two that do.
+/// Returns whether the byte separates words. The first comparison excludes most bytes.
 fn is_blank(byte: u8) -> bool
     ensures { result ≡ is_blank byte }
 {
@@ -18,7 +18,6 @@ fn word_start(line: &[u8]) -> Option<usize>
     line.iter().position(|&byte| !is_blank(byte))
 }
 
-/// Returns the place of the first blank, or `None` if there is no blank.
 fn first_blank(line: &[u8]) -> Option<usize>
     ensures { result ≡ position is_blank line.now }
 {
@@ -35,8 +34,8 @@ fn word_end(line: &[u8]) -> usize
     first_blank(line).unwrap_or(line.len())
 }
 
-/// Returns the first word of a line and the rest of the line after it. Returns `None` exactly when the
-/// line has no word. Words are separated by spaces and tabs.
+/// Returns the first word of a line and the rest of the line after it. Returns `None` exactly when
+/// the line has no word. Words are separated by spaces and tabs.
 #[inline(always)]
 pub fn first_word(line: &[u8]) -> Option<(&[u8], &[u8])>
     ensures { IsFirstWord line.now result }
@@ -46,7 +45,7 @@ pub fn first_word(line: &[u8]) -> Option<(&[u8], &[u8])>
     Some(words.split_at(word_end(words)))
 }
 
-/// Returns whether a first word makes its line a comment: whether it begins with `#`.
+/// Returns whether a line's first word begins with `#`, which makes the line a comment.
 pub fn is_comment(word: &[u8]) -> bool
     ensures { result ≡ is_comment word.now }
 {

@@ -2,7 +2,7 @@
 use Rattle.roman_top.proofs.Common.{ℕ, List, sym, subst, arith, Texts, Pair, IsSys, IsPair, is_related, related_count, by_test, related_great, great_related, NamedSys, system_of, PlainLibrary, parts_of, start_pair_of, Advising, advised_by, Listed, SaysAdvice, DoesAdvise, Status, TellsLeast, seat_costs, advice_least, AdvisesBy, KeepsAdvise, related_counted}
 use Rattle.roman_top.proofs.AdviseLemmas.{advised_unrelated, advised_many, advised_told}
 
--- the text by accepted costs
+-- the text by accepted costs keeps its promise
 advises_by : (n : NamedSys) (listed : List Listed) (requests : ℕ) (p : Pair) (text : List ℕ) (result : Status) → IsSys (system_of n) → IsPair (system_of n) p →
     SaysAdvice (advised_by n listed requests p) text result → AdvisesBy n listed requests p text result
 advises_by n listed requests p text result ok pair says = record {

@@ -3,14 +3,14 @@ use Rattle.roman_top.proofs.Common.{◌≡◌, ℕ, ◌*◌, ◌<◌, List, [], 
 
 -- Reasons.
 
--- a pair is found among those before it if it is one of them
+-- `is_among` is true exactly for the pairs of the list
 among_is : (s : Sys) (before : List Pair) (q : Pair) → IsTrue (is_among (arena s) before q) ↔ IsIn q before
 among_is s before q = (
   λ t. let (r, i, same) = any_true (same_pair q) before t in subst (λ x. IsIn x before) (sym ((system_is_same s).is q r same)) i,
   λ i. any_from (same_pair q) q before i ((system_is_same s).itself q),
 )
 
--- a seat is beaten if it has no outcome or one that is gone
+-- a seat is beaten exactly if it has no outcome or one that is gone
 beaten_is : (s : Sys) (before : List Pair) (p : Pair) (a k : ℕ) → IsSys s →
     IsTrue (is_beaten (arena s) (is_among (arena s) before) p a k) ↔ (((q : Pair) → LeadsTo s p a k q → ⊥) ⊎ ((q : Pair) × LeadsTo s p a k q × IsIn q before))
 beaten_is s before p a k ok = (

@@ -2,7 +2,7 @@
 use Rattle.roman_top.proofs.Common.{◌≡◌, ℕ, List, [], Option, None, Some, IfSome, sym, ap, ap₂, ◌∙◌, subst, Texts, shelf_text, rest_from, number, sizes_of, numbered, Verdict, cert_verdict, NamedSys, system_of, IsSeated, Seated, Check, Accepts, document_opening, library_system, OnOpening, start_pair_of, JobDoes, SaysVerdict, Status, Arena, HaveVerdict, on_accepted}
 use Rattle.roman_top.proofs.OpeningLemmas.{text_source}
 
--- the verdict on the bytes of a source is that on the text of the shelf with which it began
+-- the verdict on the bytes of a source is the verdict on the shelf's text with which it began
 pub found : (A : Arena ℕ) (start : ℕ) (told given : Option Texts) (name given_name : List ℕ) (at : ℕ) (verdict : Verdict) → given ≡ told → given_name ≡ name → at ≡ 0 → HaveVerdict A start (rest_from given given_name at) verdict →
     IfSome told (λ texts. cert_verdict A start (shelf_text texts name) ≡ verdict)
 found A start told given name given_name at verdict same_texts same_name at_start have =

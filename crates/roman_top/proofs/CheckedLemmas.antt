@@ -1,4 +1,4 @@
--- A certificate that `check` accepts lists exactly the pairs that aren't related, and each one that does is accepted.
+-- A certificate that `check` accepts lists exactly the pairs that aren't related, and each such certificate is accepted.
 use Rattle.roman_top.proofs.Common.{◌≡◌, ℕ, ◌<◌, Bool, List, [], ◌∷◌, map, inl, inr, refl, sym, ap, ◌∙◌, subst, filter_map, lines, Sys, Pair, IsSys, IsPair, Entry, IsComplete, AreEntries, Verdict, Greatest, Rejected, TooLong, cert_text, cert_verdict, IsWithinCells, GreatestIsComplete, entries_on, entry_of, greatest, is_related, related_count, sizes_of, count, number, pair_at, numbered, entry_at, IsCompleteList, from_map, length-pairs, length-below, numbers_are_pairs, map-map, related_great, great_related, written_is_greatest, ListsUnrelated, numbered_entry, CertifiesUnrelated, SaysVerdict, greatest_text, Status, TellsGreatest, certified_entries, JudgesCertificate, related_counted}
 use Rattle.roman_top.proofs.CertifiedLemmas.{lists_unrelated, complete_from}
 
@@ -57,7 +57,7 @@ accepted_tells law s p certificate related starts text ok few pair verdict says 
     start_of (Rejected line why) = is_related s p
     start_of TooLong = is_related s p
 
--- what the verdict says, where a certificate of exactly the pairs that aren't related has the verdict `greatest`
+-- the meaning of a verdict, if each certificate of exactly the pairs that aren't related has the verdict `greatest`
 judges : GreatestIsComplete → (s : Sys) (p : Pair) (certificate text : List ℕ) (result : Status) (verdict : Verdict) → IsSys s → IsWithinCells s → IsPair s p →
     cert_verdict (numbered s) (number (sizes_of s) p) certificate ≡ verdict → (CertifiesUnrelated s certificate → verdict ≡ greatest s (number (sizes_of s) p)) → SaysVerdict verdict text result → JudgesCertificate s p certificate text result
 judges law s p certificate text result (Greatest related starts) ok few pair is only (says, done) = record {

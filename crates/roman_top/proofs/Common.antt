@@ -1,4 +1,4 @@
--- What the proof pages of this crate cite from elsewhere, passed on from one place. Declares nothing.
+-- Re-exports the names that the proof pages of this crate use from other crates. Declares nothing.
 pub use Rattle.std.proofs.Common.{Bool, Err, IfSome, IsErrOf, IsFalse, IsSome, IsTrue, List, None, Ok, OnOk, Option, Result, Some, [], add-one, ap, append_assoc, ap₂, arith, codes, decimal, drop, drop-cons, false, get_or, if◌then◌else◌, inl, inr, length, ltb-true, map, nat_le, not, refl, rules, slice_get, slice_set, subst, suc, sym, take, true, ℕ, ◌*◌, ◌++◌, ◌+◌, ◌-◌, ◌<◌, ◌↔◌, ◌∙◌, ◌∷◌, ◌≡◌, ◌≢◌, ◌≤◌, ◌⊎◌}
 pub use Rattle.std.proofs.lemmas.Bool.{and_from, both_ways, cases_lt, cond-false, cond-true, false≢true, le-ltb, leb-true, lt-ltb, not-false, not-true, not_from_false, or_cases, or_left, or_parts, or_right}
 pub use Rattle.std.proofs.lemmas.List.{append-nil, drop_all, get_or-drop, length-drop, length-map, take_more}

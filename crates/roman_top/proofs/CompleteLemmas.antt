@@ -1,4 +1,4 @@
--- Commands are answered.
+-- The conditions under which commands are answered.
 use Rattle.roman_opening.specs.declared.status.Status.TheVariants as status
 use Rattle.roman_top.proofs.Common.{◌∙◌, ◌≡◌, ◌≢◌, ℕ, IsTrue, List, Option, None, Some, IfSome, refl, sym, subst, Texts, shelf_text, Sys, Pair, sizes_of, number, numbered, Verdict, Greatest, Rejected, TooLong, cert_verdict, PlainLibrary, start_pair_of, is_heard_out, Job, Synth, Run, Certify, Check, Shortest, Advise, Resilience, Command, On, Make, IsAnswered, Suffices, CanAnswer, IsUndisturbed, AnswersWherePossible, library_system, document_opening, EndsBy, SaysVerdict, DoesRun, JobDoes, IsSessionText, HasRun, texts_for, Served, World, Status, cond-true, told_all, work_of, IfSome_then}
 use Rattle.roman_top.proofs.AdviseLemmas.{advice_answered}
@@ -22,7 +22,7 @@ judged_answered TooLong text result short judges = absurd (short refl)
 run_answered : (session : List ℕ) (library : PlainLibrary) (text : List ℕ) (result : Status) → IsTrue (is_heard_out session) → DoesRun session library text result → IsAnswered result
 run_answered session library text result short talks = is_done result (talks.1 ∙ cond-true (is_heard_out session) status.Done status.TooLong short)
 
--- a job on its library is answered
+-- a job is answered if its conditions hold
 job_answered : (job : Job) (texts : Texts) (system : List ℕ) (rest : Option (List ℕ)) (session text : List ℕ) (library : PlainLibrary) (result : Status) → IsSessionText (Some (On system job)) texts rest session → Suffices job texts rest library →
     JobDoes job texts session library text result → IsAnswered result
 job_answered Synth texts system rest session text library result given enough does = ends_answered (library_system library) (start_pair_of library) result does.1
@@ -42,7 +42,7 @@ answered (Some (On system job)) texts old new result run (library, accepted, eno
     job_answered job texts system old.rest run.session run.text library result run.given enough (work_of (JobDoes job texts run.session) (document_opening texts system) library run.text result accepted run.run)
 answered (Some (Make n)) texts old new result run can = is_done result run.run.1
 
--- if no count of faults rose, a command that has what it needs is answered
+-- if no count of faults rose, a command whose conditions hold is answered
 by_status : (asked : Option Command) (old new : World) (result : Status) → Served asked old new result → IsUndisturbed old new → IfSome (texts_for asked old.texts) (λ texts. CanAnswer asked texts old.rest → IsAnswered result)
 by_status asked old new status.ShelfFault served quiet = absurd (quiet.shelf served.shelf)
 by_status asked old new status.ReadFault served quiet = absurd (quiet.input served.input)

@@ -29,7 +29,7 @@ reported : (texts : Texts) (system : List ℕ) (library : PlainLibrary) (text : 
     IsState library (start_state library) × ReportsGreat (start_state library) text
 reported texts system library text accepted says = grind (arith, reports_great, some_start, start_from, start_seen, starts_known, state_known)
 
--- the lines of a session are answered by turns, of each of which P holds
+-- the lines of a session are answered by turns that all have the property P
 answered_lines : (P : Turn → Type 0) (texts : Texts) (system : List ℕ) (name : Option (List ℕ)) (library : PlainLibrary) (old new : World) (result : Status) → LinesAreRead → StepsTell library P →
     Means texts system library → HasRun (Some (On system (Run name))) texts old new result →
     (answered : HasAnsweredLines (Some (On system (Run name))) library texts old new) × ((x : Turn) → IsIn x answered.turns → P x)

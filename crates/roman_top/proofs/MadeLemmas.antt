@@ -3,7 +3,7 @@ use Rattle.roman_top.proofs.Common.{◌≡◌, ℕ, List, [], ◌∷◌, refl, s
 use Rattle.roman_top.proofs.ServingLemmas.{outlook_right}
 use Rattle.roman_top.proofs.TurnLemmas.{IsFrom, start_seen, start_from, turns_of}
 
--- the figures of a well-formed situation
+-- the figures of a well-formed situation are right
 stands : (word : List ℕ) (s : Situation) → IsKnownSituation s → TellsStanding word (shown s) (standing word s)
 stands word s known =
     let right = outlook_right (present_system s) s.here known.situation.parts.system known.situation.here in

@@ -8,7 +8,7 @@ made_limit : (n : ℕ) → (made n).limit ≡ 4194304
 unfolding made
 made_limit n = refl
 
--- a made system has few cells
+-- a made system has at most 4,194,304 cells
 are_few : ℕ → Bool
 are_few n = nat_le (cells (library_system (made n))) 4194304
 

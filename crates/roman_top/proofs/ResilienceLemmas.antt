@@ -1,9 +1,9 @@
--- The system and the pair that are left after one or two services fail, and what `resilience` writes of them.
+-- The system and the pair that remain after one or two services fail, and the text of `resilience` about them.
 use Rattle.roman_top.proofs.Common.{◌∙◌, ◌≡◌, ℕ, suc, ◌+◌, ◌<◌, ◌≤◌, true, List, [], ◌∷◌, map, length, drop, Some, slice_get, inl, inr, refl, sym, subst, arith, remove, get_or, length-map, length-drop, get_or-drop, IsIn, below, Sys, Pair, IsSys, IsPair, Seat, outlook, system_without, pair_without, Way, from_map, from_flat_map, there_is, from_below, IsPair-turned, IsPair-without, length-set_frozen, length-remove, without_changes, in_contains, length-below, get_or-below, NamedSys, seat_of, system_of, TellsLosses, AreFailing, lines_without, outlook_text, Freeze, after, without, Die, IsSys-after}
 use Rattle.roman_model.specs.declared.way.Way.TheVariants as way
 use Rattle.roman_top.proofs.ServingLemmas.{outlook_right}
 
--- the system is well formed, and the pair is one of its pairs
+-- the system is well formed, and the pair is a pair of the system
 record IsWhole (s : Sys) (p : Pair) : Type 0 where
   system : IsSys s
   pair : IsPair s p

@@ -5,7 +5,7 @@ use Rattle.roman_hearing.specs.Told.{Told}
 use Rattle.roman_hearing.specs.declared.hearing.HearError.TheVariants as hear
 use Rattle.roman_top.proofs.ServedLemmas.{served_by}
 
--- what a session from the input did
+-- the effect of a session from the input
 pub record Heard (old new : StreamState) (result : Result (Unit {0}) HearError) : Type 0 where
   pub ok : OnOk result (IsHeardOut old new.cursor)
   pub too_long : IsErrOf result hear.TooLong → IsCutOff old new.cursor
@@ -18,13 +18,13 @@ pub record Heard (old new : StreamState) (result : Result (Unit {0}) HearError) 
 -- Sessions of accepted documents
 
 module _ (texts : Texts) (system : List ℕ) (start : Situation) (accepts : Accepts system texts (λ library. IsStart library start)) where
-  -- the replies to the lines that are answered are a run
+  -- the replies to the answered lines are a run
   talks : (name : Option (List ℕ)) (session text : List ℕ) (ls : List (List ℕ)) (now : Situation) (ends : Status) → ls ≡ heard_lines session → ends ≡ (if is_heard_out session then status.Done else status.TooLong) →
       Told start ls text now → Runs (Some (On system (Run name))) texts session text ends
   talks name session text ls now ends are is told = on_accepted (DoesRun session) (document_opening texts system) accepts.library text ends accepts.accepted
       (record { start = start; now = now; begins = accepts.holds; told = subst (λ (ls : List (List ℕ)). Told start ls text now) are told }, is)
 
-  -- the replies to a whole session are
+  -- the replies to a whole session are a run
   talks_all : (name : Option (List ℕ)) (session text : List ℕ) (now : Situation) → IsTrue (is_heard_out session) → Told start (lines session) text now → Runs (Some (On system (Run name))) texts session text status.Done
   talks_all name session text now out = talks name session text (lines session) now status.Done (sym (cond-true (is_heard_out session) _ _ out)) (sym (cond-true (is_heard_out session) _ _ out))
 
@@ -64,7 +64,7 @@ module _ (texts : Texts) (system : List ℕ) (start : Situation) (accepts : Acce
     };
   }
 
-  -- the session would go on
+  -- the written replies of a session that would continue
   answered : (old new : World) (now : Situation) (from has : Option (List ℕ)) (h : GoesOn (stream_state start from old.written) (stream_state now has new.written)) → HasAnswered texts system h.taken old new
   answered old new now from has h = record {
     library = accepts.library;
@@ -99,7 +99,7 @@ module _ (system : List ℕ) (start now : Situation) (old new : World) (opens : 
       (IfSome_then _ opens (λ texts accepts. runs_long texts system start accepts None old new old.rest now (λ session had. had) (h.too_long refl)))
       shelf (reads.stayed (λ e. cc)) (writes.stayed (λ e. cc)) tt texts
 
--- bytes are taken only with these statuses
+-- a run takes bytes only if it ends with one of these statuses
 of_session : (heard : Result (Unit {0}) HearError) → IsOfSession (run_status status.ReadFault heard)
 of_session (Ok x) = tt
 of_session (Err hear.ReadFault) = tt
@@ -125,7 +125,7 @@ input_done system start now old mid new rest rest_now input input_now heard resu
 
 -- A session from a text of the shelf
 
--- the session would go on
+-- the written replies of a session on the shelf that would continue
 broken_shelf : (texts : Texts) (system name : List ℕ) (start now : Situation) (accepts : Accepts system texts (λ library. IsStart library start)) (old new : World) →
     GoesOnFrom (stream_state start (rest_from (Some texts) name 0) old.written) (cursor now new.written) → HasAnsweredPrefix texts system name old new
 broken_shelf texts system name start now accepts old new (has, goes) = grind (arith, Gave-told, answered)
@@ -160,7 +160,7 @@ shelf_served system name start now old mid new heard result opens behaviours h r
           (shelf_heard system name start now (beside mid rest input) (beside new rest input) accepted behaviours texts refl heard h reads writes);
     })
 
--- a session from a source over a whole text
+-- a session that is read from a whole text
 pub text_heard : (start now : Situation) (from given has : Option (List ℕ)) (old new : Option (List ℕ)) (heard : Result (Unit {0}) HearError) → given ≡ from → OnOk heard (IsHeardOut (stream_state start given old) (cursor now new)) →
     (IsErrOf heard hear.TooLong → IsCutOff (stream_state start given old) (cursor now new)) → (IsErrOf heard hear.ReadFault → GoesOn (stream_state start given old) (stream_state now has new)) →
     (IsErrOf heard hear.WriteFault → AreBehaviours start.parts → TellsPrefixOfAll (stream_state start given old) new) → RunsText (stream_state start from old) (cursor now new) heard

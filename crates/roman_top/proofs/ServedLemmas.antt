@@ -1,14 +1,14 @@
--- What a call does, derived from what its parts do.
+-- The effect of a call, derived from the effects of its parts.
 use Rattle.roman_opening.specs.declared.status.Status.TheVariants as status
 use Rattle.roman_top.proofs.Common.{◌≡◌, ◌≢◌, ℕ, List, [], Option, None, Some, Result, Ok, Err, inl, refl, sym, subst, arith, IsSome, HasCause, Rose, Texts, shelf_text, Puts, SinkCause, ShelfCause, InputCause, Job, Run, Command, On, Make, usage_line, Writes, EndsBare, Prints, EndsEarly, TurnsAway, Finishes, WritesPrefix, DoesJob, IsFree, HasRunPrefix, AtReadFault, AtWriteFault, AtMemory, AtShelfFault, EndsInput, IsOfTaken, document_opening, OnOpening, JobDoes, DoesMake, IsSessionText, HasRun, DoesRun, Runs, WithTexts, Served, ServedBeside, World, outputs, Outputs, beside, IsUnwritten, world, Status, Gave, Had, Gave-nil, away_is_run, IfSome_then}
 
--- equal commands do the same
+-- equal commands have the same effect
 pub served_as : (asked other : Option Command) (old new : World) (result : Status) → asked ≡ other → Served other old new result → Served asked old new result
 served_as asked other old new result same served = subst (λ (a : Option Command). Served a old new result) (sym same) served
 
 -- By the status
 
--- what was written and taken by then
+-- the bytes that were written and taken, by the status
 abbrev pub Says : Option Command → World → World → Status → Type 0
 Says asked old new status.ShelfFault = AtShelfFault asked old new
 Says asked old new status.ReadFault = AtReadFault asked old new
@@ -38,14 +38,14 @@ served_by asked old new result says shelf input out ends texts = record {
     ran status.Memory free says = absurd free
     ran _ free says = says
 
--- the input wasn't read
+-- the input wasn't read, and its count of faults stays the same
 input_stays : (old new : Option (List ℕ)) (n : ℕ) (result : Status) → EndsBare old new result → InputCause n n result
 input_stays old new n status.ReadFault stops = absurd stops
 input_stays old new n _ stops = refl
 
 -- Commands that take nothing from the input
 
--- what was written is that of a run for some session, and nothing more is asked of how the command ends
+-- the written text is that of a run for some session, and the effects at each fault hold
 record TakesNothing (asked : Option Command) (IsRun : Texts → List ℕ → Status → Type 0) (old new : World) (result : Status) : Type 0 where
   run : (texts : Texts) → (session : List ℕ) × IsSessionText asked texts old.rest session × ((text : List ℕ) (ends : Status) → IsRun texts text ends → Runs asked texts session text ends)
   shelf : result ≡ status.ShelfFault → IsUnwritten old new → AtShelfFault asked old new
@@ -71,7 +71,7 @@ takes_served asked IsRun old new rest faults result some takes writes stops shel
     served_by asked (beside old rest faults) (beside new rest faults) result (says_of asked IsRun (beside old rest faults) (beside new rest faults) result some takes stops writes)
     shelf (input_stays old.written new.written faults result stops) out takes.ends texts
 
--- a session whose document isn't opened
+-- a session whose document isn't opened takes nothing from the input
 away_takes : (system : List ℕ) (name : Option (List ℕ)) (old new : World) (result : Status) → Gave old.rest new.rest [] → result ≢ status.Done → TakesNothing (Some (On system (Run name))) (TurnsAway system) old new result
 away_takes system None old new result gave early = record {
   run = λ texts. let (session, had) = some_rest old.rest in (session, had, away_is_run (DoesRun session) (document_opening texts system));
@@ -116,13 +116,13 @@ plain_takes : (system : List ℕ) (job : Job) (old new : World) (result : Status
 plain_takes system (Run name) old new result plain = absurd plain
 plain_takes system _ old new result plain = record { run = λ texts. ([], tt, λ text ends run. run); shelf = λ is unwritten. unwritten; taken = λ texts w. tt; ends = tt }
 
--- a command that asks for such a job
+-- a command with a job that isn't a session is served
 pub job_served : (system : List ℕ) (job : Job) (told told_now : Option Texts) (shelf shelf_now : ℕ) (rest : Option (List ℕ)) (input : ℕ) (old new : Option (List ℕ)) (out out_now : ℕ) (result : Status) → IsPlain job →
     DoesJob system job (outputs told shelf old out) (outputs told_now shelf_now new out_now) result → Served (Some (On system job)) (world told shelf rest input old out) (world told_now shelf_now rest input new out_now) result
 job_served system job told told_now shelf shelf_now rest input old new out out_now result plain does = takes_served (Some (On system job)) _ (outputs told shelf old out) (outputs told_now shelf_now new out_now) rest input result refl
     (plain_takes system job _ _ result plain) does.ends.writes does.ends.stops does.ends.shelf does.ends.out does.ends.texts
 
--- a made system
+-- a made system is served
 pub made_served : (n : ℕ) (told : Option Texts) (shelf : ℕ) (rest : Option (List ℕ)) (input : ℕ) (old new : Option (List ℕ)) (out out_now : ℕ) (result : Status) → Prints (DoesMake n) old out new out_now result →
     Served (Some (Make n)) (world told shelf rest input old out) (world told shelf rest input new out_now) result
 made_served n told shelf rest input old new out out_now result prints =

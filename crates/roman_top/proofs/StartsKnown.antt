@@ -2,7 +2,7 @@
 use Rattle.roman_top.proofs.Common.{◌≡◌, ℕ, List, [], map, IsFalse, refl, sym, ap, ◌∙◌, subst, arith, both_ways, lt-ltb, length-map, Texts, IsIn, IsSys, IsBeh, from_map, there_is, in_contains, order_goes_on, seat_of, system_of, cells, IsNamedSys, beh_at, library_of, PlainLibrary, IsLibrary, IsService, Situation, Idle, parts_of, start_pair_of, seat_of_service, IsStart, start_pair, behaviours_within, names_once, IsKnownSituation, Accepted, document_opening, is_past_limit, libraries_known, behaviour_there, beh_read, Service, is_within, StartsAreKnown, IsKnownLibrary, accepted_is}
 use Rattle.roman_model.specs.System as model
 
--- the behaviour of a service is over the environment
+-- the behaviour of a service is well formed over the environment
 service_beh : (library : PlainLibrary) (x : Service) → IsLibrary library → IsIn x library.services → IsBeh library.environment.env (beh_at library.catalogue x.behaviour)
 service_beh library x is i =
     let (k, l, e) = in_contains library.services x i in

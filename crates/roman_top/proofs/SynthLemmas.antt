@@ -1,7 +1,7 @@
 -- Writing reports as part of a run.
 use Rattle.roman_top.proofs.Common.{◌≡◌, ℕ, List, Bool, true, false, sym, subst, arith, both_ways, is_related, related_great, great_related, PlainLibrary, Situation, present_system, IsSituation, report_text, IsStart, EndsBy, DoesSynth, Status, status_of, IsSaid}
 
--- the status says whether the pair is related
+-- the status states whether the pair is related
 ends_by : (s : Situation) → IsSituation s → (related : Bool) → related ≡ is_related (present_system s) s.here → IsSaid (status_of related) × EndsBy (present_system s) s.here (status_of related)
 ends_by s known true e = (tt, related_great (present_system s) s.here known.parts.system known.here (sym e))
 ends_by s known false e = (tt, λ great. both_ways (is_related (present_system s) s.here) (sym e) (great_related (present_system s) s.here known.parts.system great))

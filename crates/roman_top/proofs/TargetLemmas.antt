@@ -3,7 +3,7 @@ use Rattle.roman_top.proofs.Common.{◌≡◌, ◌↔◌, ℕ, ◌<◌, List, []
 use Rattle.roman_text.specs.declared.replies.Reply.TheVariants as reply
 use Rattle.roman_top.proofs.TurnLemmas.{IsFrom, StepsTell}
 
--- a condition in place of an equivalent one
+-- an equivalent condition can replace a condition
 needs_same : {H K R : Type 0} {Rest : H → Type 0} {Next : K → Type 0} → Needs H R Rest → (K → H) → ((h : H) → Rest h → (k : K) × Next k) → Needs K R Next
 needs_same (inl (h, rest)) back go = inl (go h rest)
 needs_same (inr (never, refused)) back go = inr (λ k. never (back k), refused)
@@ -71,7 +71,7 @@ module _ (said : PlainTargets) (library : PlainLibrary) (s : Situation) (combine
       let (i, target, a, is) = turns.named n (subst (λ (sys : Sys). Allows sys s.here.t s.here.e n) means.system requested) in
       request_is n (record { target = i; action = a }) is.request
 
-  -- the action is allowed where its target allows it, and the same services serve it and take the same steps
+  -- the session allows the action if its target allows it, and the same services serve it and take the same steps
   abbrev TellsOfAction : Sys → ℕ → ℕ → Beh → ℕ → Type 0
   TellsOfAction sys n i target a =
       (Allows sys s.here.t s.here.e n ↔ TargetAllows w s.here i target a)

@@ -1,7 +1,7 @@
 -- Each answered line has its turn.
 use Rattle.roman_top.proofs.Common.{◌≡◌, ℕ, List, [], ◌∷◌, ◌++◌, Result, Ok, inl, inr, IsTrue, refl, sym, ap, ◌∙◌, subst, arith, false≢true, both_ways, cond-true, cond-false, flat_map, IsIn, by_test, NamedSys, PlainLibrary, Situation, IsStart, Step, is_quit, LineShape, shape_of, quit, LineError, parts_of, until_quit, Answers, shown, IsKnownSituation, State, start_state, IsState, LinesAreRead, TurnsInto, open_great, steps_known, steps_turns, line_keeps, Turn, AreTurns, after_turns}
 
--- all parts but the services are the library's
+-- all parts but the services are those of the library
 abbrev pub IsFrom : PlainLibrary → Situation → Type 0
 IsFrom library s = s.parts ≡ record (parts_of library) { seats = s.parts.seats }
 
@@ -25,12 +25,12 @@ quit_is _ h = absurd (false≢true h)
 abbrev pub turn_of : Situation → List ℕ → List ℕ → Situation → Turn
 turn_of s line text now = record { before = shown s; line = line; event = shape_of line; text = text; after = shown now }
 
--- each step of a session of the library is a turn of which P holds
+-- each step of a session of the library is a turn with the property P
 abbrev pub StepsTell : PlainLibrary → (Turn → Type 0) → Type 0
 StepsTell library P = (s mid : Situation) (line said : List ℕ) → IsFrom library s → IsKnownSituation s → IsFrom library mid → IsKnownSituation mid → TurnsInto (shown s) (shape_of line) said (shown mid) →
     P (turn_of s line said mid)
 
--- the turns of the answered lines, of each of which P holds, and the state to which they lead
+-- the turns of the answered lines, which all have the property P, and the state to which they lead
 pub record HasTurns (P : Turn → Type 0) (library : PlainLibrary) (s : State) (now : Situation) (ls : List (List ℕ)) (text : List ℕ) : Type 0 where
   pub turns : List Turn
   pub are : AreTurns library s ls turns

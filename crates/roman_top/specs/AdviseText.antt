@@ -1,4 +1,4 @@
--- What `advise` writes about costs, and the advice by them.
+-- The text of `advise`: the refusal of costs, and the advice by accepted costs.
 use Rattle.std.specs.Prelude.{◌≡◌, ℕ, ◌≤◌, ◌*◌, false, List, Result, Ok, Err}
 use Rattle.roman_io.specs.Shelf.{Texts}
 use Rattle.roman_model.specs.Offers.{related_count}
@@ -24,7 +24,7 @@ SaysAdvice Unrelated out result = EndsSaying (line_text (line.Answer false)) sta
 SaysAdvice TooMany out result = EndsSaying (limit_line MAX_VALUES) status.Limit out result
 SaysAdvice (Told text) out result = EndsSaying text status.Done out result
 
--- costs that are refused get their refusal line; costs that are accepted have the given work done
+-- if the costs are refused, the text is their refusal line; if they are accepted, the given work is done
 abbrev pub OnCosts : List ℕ → (List Listed → List ℕ → Status → Type 0) → Result (List Listed) PartError → List ℕ → Status → Type 0
 OnCosts name Work (Err error) out result = EndsSaying (refusal_line (refusal_of name part.Costs error)) status.Refused out result
 OnCosts name Work (Ok listed) out result = Work listed out result
@@ -34,7 +34,7 @@ abbrev pub DoesAdvise : List ℕ → ℕ → Texts → PlainLibrary → List ℕ
 DoesAdvise name requests texts library =
     OnCosts name (λ listed. SaysAdvice (advised_by (parts_of library) listed requests (start_pair_of library))) (costs_of texts name (parts_of library))
 
--- the costs of that name are accepted, and there are at most as many values as are allowed
+-- the costs of that name are accepted, and the number of values is within the limit
 pub record Affords (name : List ℕ) (requests : ℕ) (texts : Texts) (library : PlainLibrary) : Type 0 where
   pub listed : List Listed
   pub read : costs_of texts name (parts_of library) ≡ Ok listed

@@ -1,4 +1,4 @@
--- The numbers that words give: of workers, and of requests.
+-- The numbers of workers and of requests that words form.
 use Rattle.std.specs.Prelude.{ℕ, ◌+◌, ◌-◌, ◌*◌, ◌&&◌, Bool, List, [], ◌∷◌, Option, None, Some, codes, nat_le, if◌then◌else◌}
 use Rattle.std.specs.Str.{bytes_eq}
 use Rattle.roman_cost.specs.declared.limits.TheConstants.{MAX_REQUESTS}
@@ -13,13 +13,13 @@ is_digit byte = nat_le 48 byte && nat_le byte 57
 
 -- ---- workers
 
--- the number that a word of one digit is, from 1 to 9
+-- the number of a word of one digit, from 1 to 9
 abbrev pub digit_of : List ℕ → Option ℕ
 digit_of [] = None
 digit_of (byte ∷ []) = if is_first_digit byte then Some (byte - 48) else None
 digit_of (byte ∷ another ∷ more) = None
 
--- the number that a word from `1` to `9`, or `10`, is
+-- the number of a word from `1` to `9`, or of `10`
 abbrev pub workers_of : List ℕ → Option ℕ
 workers_of word = if bytes_eq word (codes "10") then Some 10 else digit_of word
 
@@ -29,7 +29,7 @@ workers_of word = if bytes_eq word (codes "10") then Some 10 else digit_of word
 abbrev pub two_digits : ℕ → ℕ → ℕ
 two_digits tens ones = (tens - 48) * 10 + (ones - 48)
 
--- the number that a word from `1` to `64` is; it has one or two digits, the first of which isn't 0
+-- the number of a word from `1` to `64`; it has one or two digits, the first of which isn't 0
 abbrev pub request_count_of : List ℕ → Option ℕ
 request_count_of [] = None
 request_count_of (digit ∷ []) = if is_first_digit digit then Some (digit - 48) else None

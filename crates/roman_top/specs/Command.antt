@@ -1,4 +1,4 @@
--- The words of a command, and what the command asks for.
+-- The words of a command, and the request that they form.
 use Rattle.std.specs.Prelude.{ℕ, List, [], ◌∷◌, Option, None, Some, codes, if◌then◌else◌}
 use Rattle.std.specs.Option.{option_map}
 use Rattle.std.specs.Str.{bytes_eq}
@@ -6,7 +6,7 @@ use Rattle.roman_top.specs.Arguments.{request_count_of, workers_of}
 use Rattle.roman_top.specs.declared.command.Command.{Command as Asked}
 use Rattle.roman_top.specs.declared.command.Command.TheVariants as asked
 
--- what is done with a system; a session without a name is read from the input, and another from the shelf
+-- a job on a system; a session without a name is read from the input, and a session with a name from the shelf
 pub data Job : Type 0 where
   Synth : Job
   Run : (session : Option (List ℕ)) → Job
@@ -16,7 +16,7 @@ pub data Job : Type 0 where
   Advise : (costs : List ℕ) (requests : ℕ) → Job
   Resilience : Job
 
--- what a command asks for: a job on the system document of that name, or a made system of n workers
+-- the request of a command: a job on the system document of that name, or a made system of n workers
 pub data Command : Type 0 where
   On : (system : List ℕ) (job : Job) → Command
   Make : (n : ℕ) → Command

@@ -1,4 +1,4 @@
--- Completeness: what a command needs to be answered.
+-- Completeness: the conditions under which a command is answered.
 use Rattle.std.specs.Prelude.{◌≡◌, ◌≢◌, ℕ, List, Option, None, Some, IsTrue}
 use Rattle.roman_io.specs.Faults.{Rose}
 use Rattle.roman_io.specs.Shelf.{Texts, shelf_text}
@@ -15,7 +15,7 @@ use Rattle.roman_top.specs.AdviseText.{Affords}
 use Rattle.roman_top.specs.Run.{WithTexts}
 use Rattle.roman_top.specs.World.{World}
 
--- the bytes of the session are known, and they are at most 16,777,216, or a line `quit` ends within that many
+-- the bytes of the session are known, and they are at most 16,777,216, or a line `quit` ends within that many bytes
 abbrev pub IsShort : Option (List ℕ) → Type 0
 IsShort None = ⊥
 IsShort (Some session) = IsTrue (is_heard_out session)
@@ -26,7 +26,7 @@ IsShortFor library certificate =
     let s = library_system library in
     cert_verdict (numbered s) (number (sizes_of s) (start_pair_of library)) certificate ≢ TooLong
 
--- what a job needs in addition to its library
+-- the conditions of a job on its library
 abbrev pub Suffices : Job → Texts → Option (List ℕ) → PlainLibrary → Type 0
 Suffices Synth texts rest library = Unit {0}
 Suffices (Run None) texts rest library = IsShort rest
@@ -37,7 +37,7 @@ Suffices Shortest texts rest library = Unit {0}
 Suffices (Advise costs requests) texts rest library = Affords costs requests texts library
 Suffices Resilience texts rest library = Unit {0}
 
--- the command has all that it needs: only a fault or running out of memory keeps it from its answer
+-- the conditions of a command: if they hold, only a fault or running out of memory keeps it from its answer
 abbrev pub CanAnswer : Option Command → Texts → Option (List ℕ) → Type 0
 CanAnswer None texts rest = ⊥
 CanAnswer (Some (On system job)) texts rest = (library : PlainLibrary) × (document_opening texts system ≡ Accepted library) × Suffices job texts rest library
@@ -56,6 +56,6 @@ pub record IsUndisturbed (old new : World) : Type 0 where
   pub input : Rose old.input_faults new.input_faults → ⊥
   pub out : Rose old.out_faults new.out_faults → ⊥
 
--- if no count of faults rises, a command that has what it needs is answered or runs out of memory
+-- if no count of faults rises, a command whose conditions hold is answered or runs out of memory
 abbrev pub AnswersWherePossible : Option Command → World → World → Status → Type 0
 AnswersWherePossible asked old new result = IsUndisturbed old new → WithTexts asked old.texts (λ texts. CanAnswer asked texts old.rest → IsAnswered result)

@@ -1,4 +1,4 @@
--- Words for contracts within this crate: what parts of `check`, `advise` and `resilience` open, refuse and write.
+-- Words for contracts within this crate: the values and texts of parts of `check`, `advise` and `resilience`.
 use Rattle.std.specs.Prelude.{◌≡◌, ℕ, ◌+◌, List, [], ◌∷◌, map, length, drop, Option, Result, Ok}
 use Rattle.std.specs.List.{flat_map}
 use Rattle.roman_io.specs.Shelf.{Texts}
@@ -29,7 +29,7 @@ use Rattle.roman_top.specs.ResilienceText.{head_text, lines_without, ones, twos,
 
 -- ---- check
 
--- the certificate of that name has a verdict for a joint and its start pair, or the run ended without one; any sink is as it was
+-- the certificate of that name has a verdict for a joint and its start pair, or the run ended without one; any sink is unchanged
 abbrev pub OpensVerdict : {X : Type 0} → ShelfView X → NamedSys → ℕ → List ℕ → X → X → Result Verdict Status → Type 0
 OpensVerdict F n start name old new result =
     let A = numbered (system_of n) in
@@ -47,7 +47,7 @@ abbrev pub OpensCosts : List ℕ → NamedSys → Outputs → Outputs → Result
 OpensCosts name n old new result =
     Opens (λ texts costs. costs_of texts name n ≡ Ok costs.listed) (λ texts. OnCosts name (λ listed out result. ⊥) (costs_of texts name n)) old new result
 
--- the run ended with the line that refuses the costs of that name, whatever the shelf has
+-- the run ended with the line that refuses the costs of that name, for any texts of the shelf
 abbrev pub RefusesCosts : {X : Type 0} → SinkView X → List ℕ → PartError → X → X → Status → Type 0
 RefusesCosts O name error old new result = (told : Option Texts) (shelf : ℕ) →
     EndsEarly (λ texts. EndsSaying (refusal_line (refusal_of name part.Costs error)) status.Refused)

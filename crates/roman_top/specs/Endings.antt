@@ -1,4 +1,4 @@
--- How the parts of a run end: what was written by then, by the status that they return.
+-- How the parts of a run end: the status that they return, and the text that they wrote.
 use Rattle.std.specs.Prelude.{◌≡◌, ℕ, Bool, true, false, List, [], Option, Result, Ok, Err, OnOk, IsErrOf}
 use Rattle.roman_io.specs.Shelf.{Texts, shelf_text}
 use Rattle.roman_io.specs.declared.sink.Sink.{Ghosts as SinkView}
@@ -18,37 +18,37 @@ use Rattle.roman_opening.specs.declared.status.Status.{Status}
 use Rattle.roman_top.specs.Command.{Job}
 use Rattle.roman_top.specs.Run.{SaysVerdict, JobDoes}
 
--- such a run ended, whatever the shelf has
+-- such a run ended, for any texts of the shelf
 pub record Prints (IsRun : List ℕ → Status → Type 0) (old : Option (List ℕ)) (faults : ℕ) (new : Option (List ℕ)) (faults_now : ℕ) (result : Status) : Type 0 where
   pub ends : (told : Option Texts) (shelf : ℕ) → Ends (λ texts. IsRun) (outputs told shelf old faults) (outputs told shelf new faults_now) result
 
--- the same by a sink, in words for contracts at a bound `O: Sink`
+-- such a run ended, in words for contracts at a bound `O: Sink`
 abbrev pub PrintsTo : {X : Type 0} → SinkView X → (List ℕ → Status → Type 0) → X → X → Status → Type 0
 PrintsTo O IsRun old new result = Prints IsRun (O.written old) (O.faults old) (O.written new) (O.faults new) result
 
--- what a job on the document of that name does, with a shelf and a sink alone
+-- the effect of a job on the document of that name, on a shelf and a sink alone
 pub record DoesJob (name : List ℕ) (job : Job) (old new : Outputs) (result : Status) : Type 0 where
   pub ends : Ends (λ texts. OnOpening (JobDoes job texts []) (document_opening texts name)) old new result
 
--- the status that says whether a pair is related
+-- the status that states whether a pair is related
 abbrev pub status_of : Bool → Status
 status_of true = status.Done
 status_of false = status.No
 
 -- ---- sessions
 
--- a session would go on after a prefix of its bytes
+-- a session would continue after a prefix of its bytes
 abbrev pub GoesOnFrom : StreamState → Cursor → Type 0
 GoesOnFrom old new = (has : Option (List ℕ)) × GoesOn old (record { cursor = new; rest = has })
 
--- what was written of a session that was read from a text of the shelf, by its result
+-- the replies that were written of a session that was read from a text of the shelf, by its result
 pub record RunsText (old : StreamState) (new : Cursor) (result : Result (Unit {0}) HearError) : Type 0 where
   pub ok : OnOk result (IsHeardOut old new)
   pub too_long : IsErrOf result hear.TooLong → IsCutOff old new
   pub read_fault : IsErrOf result hear.ReadFault → GoesOnFrom old new
   pub prefix : IsErrOf result hear.WriteFault → AreBehaviours old.cursor.situation.parts → TellsPrefixOfAll old new.written
 
--- the status after a session, with `fault` for a failed read
+-- the status after a session, with `fault` after a failed read
 abbrev pub run_status : Status → Result (Unit {0}) HearError → Status
 run_status fault (Ok x) = status.Done
 run_status fault (Err hear.ReadFault) = fault
@@ -57,7 +57,7 @@ run_status fault (Err hear.TooLong) = status.TooLong
 
 -- ---- certificates
 
--- the certificate has a verdict, and this is it
+-- the certificate has this verdict
 abbrev pub FindsVerdict : Arena ℕ → ℕ → List ℕ → Texts → Verdict → Type 0
 FindsVerdict A start name texts verdict = cert_verdict A start (shelf_text texts name) ≡ verdict_of verdict
 

@@ -1,4 +1,4 @@
--- Runs that a fault or running out of memory ended: what was written and taken by then.
+-- Runs that a fault or running out of memory ended: which bytes were written and taken.
 use Rattle.std.specs.Prelude.{◌≡◌, ℕ, ◌+◌, ◌-◌, ◌⊎◌, List, ◌++◌, Option, None, Some, IfSome, IsSome}
 use Rattle.roman_io.specs.Shelf.{Texts, shelf_text}
 use Rattle.roman_io.specs.Sink.{Wrote, WrotePrefix}
@@ -22,9 +22,9 @@ IsFree status.WriteFault = ⊥
 IsFree status.Memory = ⊥
 IsFree _ = Unit {0}
 
--- ---- what was written
+-- ---- the text that was written
 
--- a session of that document took these bytes and would go on, and the replies to their whole lines were written
+-- a session of that document took these bytes and would continue, and the replies to their whole lines were written
 pub record HasAnswered (texts : Texts) (system taken : List ℕ) (old new : World) : Type 0 where
   pub library : PlainLibrary
   pub accepted : document_opening texts system ≡ Accepted library
@@ -39,8 +39,8 @@ pub record HasAnsweredPrefix (texts : Texts) (system name : List ℕ) (old new :
   pub split : shelf_text texts name ≡ taken ++ rest
   pub answered : HasAnswered texts system taken old new
 
--- at a fault of the shelf: replies of a session on the shelf were written, and nothing else; `make` and words that form no command never
--- end so
+-- after a fault of the shelf only replies of a session on the shelf were written; `make` and words that form no command never end with
+-- this fault
 abbrev pub AtShelfFault : Option Command → World → World → Type 0
 AtShelfFault (Some (On system (Run (Some name)))) old new = IsUnwritten old new ⊎ IfSome old.texts (λ texts. HasAnsweredPrefix texts system name old new)
 AtShelfFault (Some (On system job)) old new = IsUnwritten old new
@@ -52,12 +52,12 @@ pub record HasAnsweredInput (texts : Texts) (system : List ℕ) (old new : World
   pub gave : Gave old.rest new.rest taken
   pub answered : HasAnswered texts system taken old new
 
--- at a fault of the input: the replies of a session from the input were written; no other command ends so
+-- after a fault of the input the replies of a session from the input were written; other commands never end with this fault
 abbrev pub AtReadFault : Option Command → World → World → Type 0
 AtReadFault (Some (On system (Run None))) old new = IfSome old.texts (λ texts. HasAnsweredInput texts system old new)
 AtReadFault _ old new = ⊥
 
--- a prefix of the text of a run was written, for an input that had `rest` left
+-- a prefix of the text of a run was written; the input had `rest` left before the run
 pub record HasRunPrefix (asked : Option Command) (texts : Texts) (rest : Option (List ℕ)) (old new : World) : Type 0 where
   pub session : List ℕ
   pub given : IsSessionText asked texts rest session
@@ -74,22 +74,22 @@ pub record HasPrefixOfTaken (texts : Texts) (system : List ℕ) (old new : World
   pub ends : AreWhole taken ⊎ Had old.rest taken
   pub run : HasRunPrefix (Some (On system (Run None))) texts (Some taken) old new
 
--- for a session from the input a prefix of the replies to lines that were taken was written; of other runs nothing is said
+-- a session from the input wrote a prefix of the replies to lines that it took; nothing is stated about other runs
 abbrev pub IsOfTaken : Option Command → Texts → World → World → Type 0
 IsOfTaken (Some (On system (Run None))) texts old new = HasPrefixOfTaken texts system old new
 IsOfTaken _ texts old new = Unit {0}
 
--- at a fault of the sink: a prefix of the text of a run was written
+-- after a fault of the sink a prefix of the text of a run was written
 abbrev pub AtWriteFault : Option Command → World → World → Type 0
 AtWriteFault asked old new = WithTexts asked old.texts (λ texts. HasRunPrefix asked texts old.rest old new × IsOfTaken asked texts old new)
 
--- out of memory: nothing was written, and the words are a command
+-- out of memory nothing was written, and the words form a command
 abbrev pub AtMemory : Option Command → World → World → Type 0
 AtMemory asked old new = IsSome asked × IsUnwritten old new
 
--- ---- what was taken from the input
+-- ---- the bytes that were taken from the input
 
--- the statuses with which a run that took bytes from the input may end
+-- the statuses with which a run can end after it took bytes from the input
 abbrev pub IsOfSession : Status → Type 0
 IsOfSession status.Done = Unit {0}
 IsOfSession status.ReadFault = Unit {0}
@@ -108,7 +108,7 @@ abbrev pub TakesInput : Option Command → World → World → Status → Type 0
 TakesInput (Some (On system (Run None))) old new result = HasTakenBytes system old new result
 TakesInput _ old new result = ⊥
 
--- a session from the input that is Done is at the input's end, or at most 4,095 bytes past its `quit`
+-- a session from the input that ends with Done is at the input's end, or at most 4,095 bytes past its `quit`
 abbrev pub EndsInput : Option Command → World → World → Status → Type 0
 EndsInput (Some (On system (Run None))) old new status.Done = IsAtEnd new.rest ⊎ GaveQuit (PIECE_BYTES - 1) old.rest new.rest
 EndsInput _ old new result = Unit {0}

@@ -1,4 +1,4 @@
--- The headline: what the answers of a session say, in terms of the greatest ND-simulation, steps and texts alone.
+-- The headline: the meaning of a session's answers, in terms of the greatest ND-simulation, steps and texts alone.
 use Rattle.std.specs.Prelude.{ℕ, List, Option, Some, IfSome}
 use Rattle.roman_io.specs.Sink.{Wrote}
 use Rattle.roman_library.specs.Library.{PlainLibrary}
@@ -19,14 +19,14 @@ pub record HasReported (library : PlainLibrary) (old new : World) : Type 0 where
   pub great : ReportsGreat (start_state library) text
   pub wrote : Wrote old.written new.written text
 
--- what is promised of a session and of a synthesis of an accepted document within its limit, if the shelf tells its texts
+-- the promise of a session and of a synthesis of an accepted document within its limit, if the shelf's type exposes its texts
 abbrev pub KeepsPromise : Option Command → World → World → Type 0
 KeepsPromise (Some (On system (Run name))) old new =
     IfSome old.texts (λ texts. (library : PlainLibrary) → Means texts system library → HasAnsweredLines (Some (On system (Run name))) library texts old new)
 KeepsPromise (Some (On system Synth)) old new = IfSome old.texts (λ texts. (library : PlainLibrary) → Means texts system library → HasReported library old new)
 KeepsPromise _ old new = Unit {0}
 
--- unless a fault or running out of memory ended the run, the promise is kept, also target by target, and so is that of each other command;
--- the status of `run` and of `synth` is left to `Runs`
+-- unless a fault or running out of memory ended the run, it keeps the promise, the promise target by target, and the promise of each other
+-- command; `Runs` states the status of `run` and of `synth`
 abbrev pub HasHeadline : Option Command → World → World → Status → Type 0
 HasHeadline asked old new result = IsFree result → KeepsPromise asked old new × KeepsTargets asked old new × KeepsText asked old new result

@@ -1,4 +1,4 @@
--- What `advise` writes: the least worst costs of plans in which each action goes to a service that serves it.
+-- The text of `advise`: the least worst costs of plans in which each action goes to a service that serves it.
 use Rattle.std.specs.Prelude.{◌≡◌, ℕ, ◌<◌, ◌≤◌, ◌*◌, false, List, Ok, Err}
 use Rattle.roman_io.specs.Shelf.{Texts}
 use Rattle.roman_model.specs.System.{Pair}
@@ -22,8 +22,8 @@ use Rattle.roman_opening.specs.RefusalLine.{refusal_line}
 use Rattle.roman_opening.specs.declared.status.Status.{Status}
 use Rattle.roman_opening.specs.declared.status.Status.TheVariants as status
 
--- what is written with accepted costs: `answer none` if the pair isn't related; the line of the limit if the related pairs times
--- the requests are too many; and otherwise the least worst cost of the requests
+-- the text by accepted costs: `answer none` if the pair isn't related; the line of the limit if the related pairs times the
+-- requests are too many; and otherwise the least worst cost of the requests
 pub record AdvisesBy (n : NamedSys) (listed : List Listed) (requests : ℕ) (p : Pair) (text : List ℕ) (result : Status) : Type 0 where
   pub related : ℕ
   pub great : Counts (system_of n) (Great (system_of n)) related
@@ -31,7 +31,7 @@ pub record AdvisesBy (n : NamedSys) (listed : List Listed) (requests : ℕ) (p :
   pub many : Great (system_of n) p → MAX_VALUES < related * requests → EndsSaying (limit_line MAX_VALUES) status.Limit text result
   pub told : Great (system_of n) p → related * requests ≤ MAX_VALUES → TellsLeast n (seat_costs n listed) requests p text × (result ≡ status.Done)
 
--- advise: costs that are refused get their refusal line; accepted costs get the advice for the starting states
+-- advise: the refusal line of the costs if they are refused; otherwise the advice for the starting states
 pub record KeepsAdvise (costs : List ℕ) (requests : ℕ) (texts : Texts) (library : PlainLibrary) (text : List ℕ) (result : Status) : Type 0 where
   pub refused : (error : PartError) → costs_of texts costs (parts_of library) ≡ Err error → EndsSaying (refusal_line (refusal_of costs part.Costs error)) status.Refused text result
   pub advised : (listed : List Listed) → costs_of texts costs (parts_of library) ≡ Ok listed → AdvisesBy (parts_of library) listed requests (start_pair_of library) text result

@@ -1,4 +1,4 @@
--- What `certify` writes: exactly the pairs that aren't related, each with a reason that holds by the pairs before it.
+-- The text of `certify`: exactly the pairs that aren't related, each with a reason that holds by the pairs before it.
 use Rattle.std.specs.Prelude.{◌≡◌, ◌⊎◌, ◌↔◌, ℕ, ◌<◌, List, [], ◌∷◌, map, length, IsTrue}
 use Rattle.roman_model.specs.Lists.{IsIn}
 use Rattle.roman_model.specs.System.{Sys, Pair, IsPair, Allows, is_final, all_final}

@@ -1,4 +1,4 @@
--- What `check` writes of a certificate: `greatest` only if it validly lists all pairs that aren't related, and no others.
+-- The text of `check` for a certificate: `greatest` only if it validly lists all pairs that aren't related, and no others.
 use Rattle.std.specs.Prelude.{◌≡◌, ◌⊎◌, ◌↔◌, ℕ, Bool, List, [], map, length, IsTrue}
 use Rattle.std.specs.List.{filter_map}
 use Rattle.roman_model.specs.Lines.{lines}
@@ -17,7 +17,7 @@ use Rattle.roman_opening.specs.declared.status.Status.{Status}
 use Rattle.roman_top.specs.HeadlineCertify.{ListsUnrelated, CertifiesUnrelated}
 use Rattle.roman_top.specs.CheckText.{greatest_text, rejected_text}
 
--- the text says how many pairs are related, and whether the given pair is
+-- the text states how many pairs are related, and whether the given pair is
 pub record TellsGreatest (s : Sys) (p : Pair) (text : List ℕ) : Type 0 where
   pub related : ℕ
   pub great : Counts s (Great s) related
@@ -25,7 +25,7 @@ pub record TellsGreatest (s : Sys) (p : Pair) (text : List ℕ) : Type 0 where
   pub start : IsTrue starts ↔ Great s p
   pub says : text ≡ greatest_text related starts
 
--- the entries that the lines of a certificate give; lines that aren't the text of an entry give none
+-- the entries of the lines of a certificate; lines that aren't the text of an entry have none
 abbrev pub certified_entries : Sys → List ℕ → List (Entry Pair)
 certified_entries s certificate = map (entry_at s) (filter_map (entry_of (length (pairs s)) s.env.actions) (lines certificate))
 

@@ -1,4 +1,4 @@
--- What each command but `synth` and `run` promises of its text and its status.
+-- The promise of each command but `synth` and `run` for its text and its status.
 use Rattle.std.specs.Prelude.{◌≡◌, ℕ, List, Option, None, Some, IfSome}
 use Rattle.roman_io.specs.Shelf.{Texts, shelf_text}
 use Rattle.roman_library.specs.Library.{PlainLibrary}
@@ -21,7 +21,7 @@ use Rattle.roman_top.specs.World.{World}
 abbrev pub KeepsShortest : PlainLibrary → List ℕ → Status → Type 0
 KeepsShortest library text result = TellsDepths (library_system library) (start_pair_of library) text × (result ≡ status.Done)
 
--- each other command by the page with its name; the page `Headline` has `synth` and `run`
+-- the promise of each other command is on the page with its name; that of `synth` and `run` is on the page `Headline`
 abbrev pub KeepsJob : Job → Texts → PlainLibrary → List ℕ → Status → Type 0
 KeepsJob Certify texts library text result = KeepsCertify library text result
 KeepsJob (Check certificate) texts library text result = KeepsCheck (shelf_text texts certificate) library text result
@@ -30,7 +30,7 @@ KeepsJob (Advise costs requests) texts library text result = KeepsAdvise costs r
 KeepsJob Resilience texts library text result = KeepsResilience library text result
 KeepsJob _ texts library text result = Unit {0}
 
--- the text that was written keeps its promise: that of a job, for an accepted document within its limit if the texts are known, and
+-- the text that was written keeps its promise: that of a job, for an accepted document within its limit if the texts are known, or
 -- that of `make`
 abbrev pub KeepsText : Option Command → World → World → Status → Type 0
 KeepsText (Some (On system job)) old new result =

@@ -1,4 +1,4 @@
--- What `make` writes: the figures of a session of the made system at each stage, in terms of the greatest ND-simulation.
+-- The text of `make`: the figures of a session of the made system at each stage, in terms of the greatest ND-simulation.
 use Rattle.std.specs.Prelude.{◌≡◌, ◌↔◌, ℕ, Bool, List, [], ◌∷◌, ◌++◌, codes, IsTrue}
 use Rattle.roman_model.specs.Composition.{Great}
 use Rattle.roman_model.specs.Counting.{Counts}
@@ -12,7 +12,7 @@ use Rattle.roman_opening.specs.declared.status.Status.{Status}
 use Rattle.roman_top.specs.HeadlineTurns.{Turn, AreTurns, after_turns}
 use Rattle.roman_top.specs.MakeText.{stage_line, stages, made_line}
 
--- a line says how many pairs the present system has, how many are related, and whether the current one is
+-- a line states how many pairs the present system has, how many are related, and whether the current one is
 pub record TellsStanding (word : List ℕ) (s : State) (text : List ℕ) : Type 0 where
   pub related : ℕ
   pub great : Counts (system_of s.parts) (Great (system_of s.parts)) related

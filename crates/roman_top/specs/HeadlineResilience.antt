@@ -1,4 +1,4 @@
--- What `resilience` writes, in terms of the greatest ND-simulations of the system and of the systems without one or two of its services.
+-- The text of `resilience`, in terms of the greatest ND-simulations of the system and of the systems without one or two of its services.
 use Rattle.std.specs.Prelude.{◌≡◌, ◌⊎◌, ◌↔◌, ℕ, List, ◌++◌, length, codes, IsTrue}
 use Rattle.std.specs.List.{flat_map}
 use Rattle.roman_model.specs.Lists.{IsIn, HasNoRepeats}
@@ -33,7 +33,7 @@ pub record AreServings (s : Sys) (servings : List Serving) : Type 0 where
   pub once : HasNoRepeats servings
   pub each : (x : Serving) → IsIn x servings ↔ IsServing s x
 
--- an outlook is right: it says whether the pair is related, how many pairs are, and in how many cases a seat serves an action
+-- an outlook is right: it states whether the pair is related, how many pairs are, and in how many cases a seat serves an action
 pub record IsRightOutlook (s : Sys) (p : Pair) (told : Outlook) : Type 0 where
   pub composes : IsTrue told.composes ↔ Great s p
   pub related : Counts s (Great s) told.related

@@ -1,5 +1,5 @@
--- Sessions of documents with several targets, target by target: what is asked of which target, which services serve all targets, and
--- which target moves, in terms of the greatest ND-simulation of all targets, steps and texts alone.
+-- Sessions of documents with several targets, target by target: which target has which request, which services serve all targets,
+-- and which target moves, in terms of the greatest ND-simulation of all targets, steps and texts alone.
 use Rattle.std.specs.Prelude.{◌≡◌, ◌↔◌, ℕ, ◌<◌, ◌++◌, List, map, length, codes, Option, Some, IfSome, Result, Ok, IsTrue, slice_get, slice_index, slice_set}
 use Rattle.std.specs.List.{flat_map}
 use Rattle.roman_io.specs.Shelf.{Texts}
@@ -43,7 +43,7 @@ IsGreatAll said s = GreatAll (targets_now said s) (couple_now said s)
 
 -- ---- requests
 
--- action n of the session asks the target at a place for one of its actions; its name joins the names of the action and the target
+-- action n of the session requests an action of the target at a place; its name joins the names of the action and the target
 pub record TargetAction (said : PlainTargets) (s : State) (n : ℕ) : Type 0 where
   pub place : ℕ
   pub target : Named
@@ -69,7 +69,7 @@ MayRequestOne said s n asks = Allows (one_now said s n asks) (state_now said s n
 abbrev pub ServesAllHere : (said : PlainTargets) (s : State) (n : ℕ) → TargetAction said s n → ℕ → Type 0
 ServesAllHere said s n asks k = ServesAll (targets_now said s) (GreatAll (targets_now said s)) (couple_now said s) asks.place asks.target.target.beh asks.action k
 
--- the text offers exactly the services that serve the action for all targets, in their order
+-- the text offers exactly the services that serve the action for all targets, in the order of their places
 pub record OffersServingAll (said : PlainTargets) (s : State) (n : ℕ) (asks : TargetAction said s n) (text : List ℕ) : Type 0 where
   pub services : List ℕ
   pub order : IsSublist services (below (length s.parts.seats))
@@ -87,7 +87,7 @@ pub record MovesOne (said : PlainTargets) (s : State) (n : ℕ) (asks : TargetAc
   pub couple : couple_now said new ≡ record { ts = slice_set (couple_now said s).ts asks.place t; e = e; bs = bs; e2 = e }
   pub says : Replies (reply.Now (joined (names_at said.targets (slice_set (couple_now said s).ts asks.place t))) env) text
 
--- the three events of a request, target by target: their conditions in order, each with the reply that refuses it, and then what they do
+-- the three events of a request, target by target: their conditions in order, each with its refusal, and then their effects
 abbrev pub TellsTarget : PlainTargets → State → Result LineShape LineError → List ℕ → State → Type 0
 TellsTarget said s (Ok (request action)) text new =
     Needs ((n : ℕ) × (slice_get s.parts.environment.actions n ≡ Some action) × TargetAction said s n) (Refuses s text new reply.ErrorName) (λ (n, named, asks).
@@ -108,19 +108,19 @@ TellsTarget said s (Ok (observe state env)) text new =
     MovesOne said s n asks e (slice_set s.here.bs k b) env text new))))
 TellsTarget said s _ text new = Unit {0}
 
--- action n asks one of the targets: the session allows it exactly when that target allows its action, and the services that serve it are
--- exactly those that serve it for all targets
+-- action n is a request of one of the targets: the session allows it exactly when that target allows its action, and the services that
+-- serve it are exactly those that serve it for all targets
 pub record MeansOne (said : PlainTargets) (s : State) (n : ℕ) : Type 0 where
   pub asks : TargetAction said s n
   pub may : MayRequest s n ↔ MayRequestOne said s n asks
   pub serves : (k : ℕ) → ServesHere s n k ↔ ServesAllHere said s n asks k
 
--- a pair of the state's system is related exactly when some ND-simulation of all targets contains it; each action asks one of the targets
+-- a pair of the state's system is related exactly when some ND-simulation of all targets contains it; each action is one of a target
 pub record MeansTargets (said : PlainTargets) (s : State) : Type 0 where
   pub great : (p : Pair) → IsPair (system_of s.parts) p → Great (system_of s.parts) p ↔ GreatAll (targets_now said s) (couple_all (targets_now said s) p)
   pub actions : (n : ℕ) → n < length s.parts.environment.actions → MeansOne said s n
 
--- a turn, target by target: what its states mean, and what the three events of a request tell
+-- a turn, target by target: the meaning of its states, and of the three events of a request
 pub record IsTurnOfTargets (said : PlainTargets) (x : Turn) : Type 0 where
   pub before : MeansTargets said x.before
   pub after : MeansTargets said x.after
@@ -133,7 +133,7 @@ pub record HasAnsweredTargets (requested : Option Command) (library : PlainLibra
   pub answered : HasAnsweredLines requested library texts old new
   pub each : (x : Turn) → IsIn x answered.turns → IsTurnOfTargets said x
 
--- what is promised of a session, and of the state on which a synthesis reports, if the document names several targets
+-- the promise of a session, and of the state on which a synthesis reports, if the document names several targets
 abbrev pub KeepsTargets : Option Command → World → World → Type 0
 KeepsTargets (Some (On system (Run name))) old new =
     IfSome old.texts (λ texts. (library : PlainLibrary) (said : PlainTargets) → Means texts system library → NamesTargets texts system said →

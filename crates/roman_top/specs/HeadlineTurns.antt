@@ -26,8 +26,8 @@ pub record Turn : Type 0 where
   pub text : List ℕ
   pub after : State
 
--- the lines have their turns, up to the first `quit`: each begins in the state to which the one before it led, which is well formed, and
--- leads to the state to which the line's event leads, with the event's answer as its text
+-- the lines have their turns, up to the first `quit`: each turn begins in the state to which the one before it led, which is well
+-- formed, and leads to the state of the line's event, with the event's answer as its text
 abbrev pub AreTurns : PlainLibrary → State → List (List ℕ) → List Turn → Type 0
 AreTurns library s [] [] = IsState library s
 AreTurns library s [] (x ∷ turns) = ⊥
@@ -45,8 +45,8 @@ after_turns s (x ∷ turns) = after_turns x.after turns
 abbrev pub Means : Texts → List ℕ → PlainLibrary → Type 0
 Means texts system library = (library_of texts system ≡ Ok library) × (cells (system_of (parts_of library)) ≤ library.limit)
 
--- the lines of the session have their turns, from the library's state on, and the texts of the turns were written; of a session that is
--- too long, the lines that end within the limit have their turns
+-- the lines of the session have their turns from the library's state on, and the texts of the turns were written; if the session is too
+-- long, the lines that end within the limit have their turns
 pub record HasAnsweredLines (asked : Option Command) (library : PlainLibrary) (texts : Texts) (old new : World) : Type 0 where
   pub session : List ℕ
   pub given : IsSessionText asked texts old.rest session

@@ -1,4 +1,4 @@
--- The stages of the script, as the program keeps them.
+-- The stages of the script, as the program stores them.
 use Rattle.std.specs.Prelude.{ℕ, List, [], ◌∷◌, ◌++◌, codes}
 use Rattle.roman_session.specs.Situations.{Situation}
 use Rattle.roman_hearing.specs.Told.{Answers}
@@ -14,7 +14,7 @@ abbrev pub lines_of : List MakeStage → List ℕ
 lines_of [] = codes "end\n"
 lines_of (stage ∷ more) = line_of_stage stage ++ lines_of more
 
--- a session answered these lines, from the one situation to the other
+-- a session answered these lines, and they lead from one situation to the other
 pub record HasComeTo (old : Situation) (lines : List (List ℕ)) (new : Situation) : Type 0 where
   pub replies : List ℕ
   pub answers : Answers old lines replies new

@@ -1,4 +1,4 @@
--- Runs: what a call writes and how it ends, given its words, the texts of the shelf and the bytes of the session.
+-- Runs: the text and the status of a call, given its words, the texts of the shelf and the bytes of the session.
 use Rattle.std.specs.Prelude.{◌≡◌, ℕ, List, [], Option, None, Some, IfSome, if◌then◌else◌}
 use Rattle.roman_io.specs.Shelf.{Texts, shelf_text}
 use Rattle.roman_io.specs.Sink.{Wrote}
@@ -24,7 +24,7 @@ use Rattle.roman_top.specs.Sessions.{ToldFromStart}
 use Rattle.roman_top.specs.CheckText.{greatest_text, rejected_text}
 use Rattle.roman_top.specs.World.{World}
 
--- ---- what each command does; a job has an accepted document within its limit
+-- ---- the effect of each command; a job has an accepted document within its limit
 
 -- the status is Done if the pair is related, and No if it isn't
 abbrev pub EndsBy : Sys → Pair → Status → Type 0
@@ -72,7 +72,7 @@ DoesShortest library out result = TellsShortestOf (library_system library) (star
 abbrev pub DoesResilience : PlainLibrary → List ℕ → Status → Type 0
 DoesResilience library out result = EndsSaying (outlook_text (parts_of library) (start_pair_of library)) status.Done out result
 
--- run: the replies to the lines of the session; of a session that is too long, to the lines that end within the limit
+-- run: the replies to the lines of the session; if it is too long, to the lines that end within the limit
 abbrev pub DoesRun : List ℕ → PlainLibrary → List ℕ → Status → Type 0
 DoesRun session library out result = ToldFromStart library (heard_lines session) out × (result ≡ (if is_heard_out session then status.Done else status.TooLong))
 
@@ -80,7 +80,7 @@ DoesRun session library out result = ToldFromStart library (heard_lines session)
 abbrev pub DoesMake : ℕ → List ℕ → Status → Type 0
 DoesMake n out result = MakesSummary n out × (result ≡ status.Done)
 
--- what each job does
+-- the effect of each job
 abbrev pub JobDoes : Job → Texts → List ℕ → PlainLibrary → List ℕ → Status → Type 0
 JobDoes Synth texts session = DoesSynth
 JobDoes (Run name) texts session = DoesRun session
@@ -104,16 +104,16 @@ IsSessionText (Some (On system (Run (Some name)))) texts before session = sessio
 IsSessionText (Some (On system (Run None))) texts before session = Had before session
 IsSessionText _ texts before session = Unit {0}
 
--- the texts that a call asks the shelf for, if they are known; `make` and words that form no command ask for none
+-- the texts that a call fetches from the shelf, if they are known; `make` and words that form no command fetch none
 abbrev pub texts_for : Option Command → Option Texts → Option Texts
 texts_for (Some (On system job)) told = told
 texts_for _ told = Some []
 
--- the property holds of the texts that a call asks for, if they are known
+-- the property holds for the texts that a call fetches, if they are known
 abbrev pub WithTexts : Option Command → Option Texts → (Texts → Type 0) → Type 0
 WithTexts asked told Holds = IfSome (texts_for asked told) Holds
 
--- what was written and the status are those of a run
+-- the status and the written text are those of a run
 pub record HasRun (asked : Option Command) (texts : Texts) (old new : World) (result : Status) : Type 0 where
   pub session : List ℕ
   pub given : IsSessionText asked texts old.rest session

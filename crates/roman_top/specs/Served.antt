@@ -1,4 +1,4 @@
--- What a call of `serve` does, given its words and the outside before and after it.
+-- The effect of a call of `serve`, given its words and the outside before and after it.
 use Rattle.std.specs.Prelude.{◌≡◌, ℕ, List, Option}
 use Rattle.roman_opening.specs.Causes.{ShelfCause, SinkCause}
 use Rattle.roman_opening.specs.Outputs.{Outputs}
@@ -10,8 +10,8 @@ use Rattle.roman_top.specs.Causes.{InputCause}
 use Rattle.roman_top.specs.Faults.{IsFree, AtShelfFault, AtReadFault, AtWriteFault, AtMemory, EndsInput}
 use Rattle.roman_top.specs.World.{World, beside}
 
--- unless a fault or running out of memory ended it, the call is a run; after each such end, what was written; which counts of faults
--- rose; what the input has left after a session from it; and that the shelf's texts are the same
+-- unless a fault or running out of memory ended it, the call is a run; after each such end, the text that was written; the counts of
+-- faults that rose; the rest of the input after a session from it; and that the shelf's texts are the same
 pub record Served (asked : Option Command) (old new : World) (result : Status) : Type 0 where
   pub run : IsFree result → WithTexts asked old.texts (λ texts. HasRun asked texts old new result)
   pub shelf_fault : result ≡ status.ShelfFault → AtShelfFault asked old new
@@ -24,6 +24,6 @@ pub record Served (asked : Option Command) (old new : World) (result : Status) :
   pub ends : EndsInput asked old new result
   pub texts : new.texts ≡ old.texts
 
--- what a call does that leaves the input unchanged, for any input
+-- the effect of a call that leaves the input unchanged, for any input
 pub record ServedBeside (asked : Option Command) (old new : Outputs) (result : Status) : Type 0 where
   pub served : (rest : Option (List ℕ)) (faults : ℕ) → Served asked (beside old rest faults) (beside new rest faults) result

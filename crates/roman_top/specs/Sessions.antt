@@ -15,15 +15,15 @@ use Rattle.roman_opening.specs.Opening.{Accepted, document_opening}
 abbrev pub StartsAreKnown : Type 0
 StartsAreKnown = (texts : Texts) (system : List ℕ) (library : PlainLibrary) (s : Situation) → document_opening texts system ≡ Accepted library → IsStart library s → IsKnownSituation s
 
--- the text is the replies to the lines in a session of that library, from one of its starting situations
+-- the text has the replies to the lines in a session of that library, from one of its starting situations
 pub record ToldFromStart (library : PlainLibrary) (lines : List (List ℕ)) (text : List ℕ) : Type 0 where
   pub start : Situation
   pub now : Situation
   pub begins : IsStart library start
   pub told : Told start lines text now
 
--- a session that goes on: the bytes taken so far are within the limit, none of their whole lines ends it, and
--- the text is the replies to these lines
+-- a session that continues: the bytes taken so far are within the limit, none of their whole lines ends it, and the text has
+-- the replies to these lines
 pub record GoesOnInSession (library : PlainLibrary) (taken text : List ℕ) : Type 0 where
   pub few : length taken ≤ MAX_SESSION_BYTES
   pub quitless : IsFalse (has_quit (ended_lines taken))

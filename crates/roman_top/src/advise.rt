@@ -29,8 +29,8 @@ use std::alloc::Global;
 use std::sync::ledger::Ledger;
 
 /// Writes the least worst cost of that many requests by the costs on the shelf, and the services to
-/// use. Writes `answer none` if the start pair isn't related, and the line of the limit if there are
-/// too many values.
+/// use. Writes `answer none` if the start pair isn't related, and the line of the limit if there
+/// are too many values.
 #[tactic(auto, using(crate::proofs::OpeningLemmas::early_does))]
 pub(crate) fn advise<F: Shelf, O: Sink, L: Ledger>(
     alloc: Global,

@@ -17,8 +17,9 @@ use roman_start::Seated;
 use std::alloc::Global;
 use std::sync::ledger::Ledger;
 
-/// Checks the certificate of that name for the system document of that name, and writes the verdict. The status
-/// says whether it is right and complete. Fails as a run of `check` does, with its line.
+/// Checks the certificate of that name for the system document of that name, and writes the
+/// verdict. The status is `Done` if the certificate is right and complete. Fails as a run of
+/// `check` does, with its line.
 #[tactic(auto, using(crate::proofs::OpeningLemmas::early_does))]
 pub fn check_certificate<F: Shelf, O: Sink, L: Ledger>(
     alloc: Global,
@@ -53,8 +54,8 @@ fn tell<O: Sink>(verdict: Verdict, out: &mut O) -> Status
     }
 }
 
-/// Returns the verdict on the certificate named `name` on the shelf, or the status with which the run
-/// ends without one.
+/// Returns the verdict on the certificate named `name` on the shelf, or the status with which the
+/// run ends without one.
 fn verdict_on<F: Shelf, L: Ledger>(
     alloc: Global,
     seated: &Seated,

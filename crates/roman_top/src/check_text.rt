@@ -10,7 +10,7 @@ use roman_check::Why;
 use roman_io::{Failed, Sink};
 use roman_text::Piece;
 
-/// Writes the line `greatest R`, and the line that says whether the start pair is related.
+/// Writes the line `greatest R`, and the line that states whether the start pair is related.
 pub(crate) fn put_greatest<O: Sink>(related: u32, start: bool, out: &mut O) -> Result<(), Failed>
     ensures puts { WritesTo O.Sink out.old out.new (greatest_text related start) result }
     ensures cause { FailsWith O.Sink out.old out.new result }
@@ -20,7 +20,7 @@ pub(crate) fn put_greatest<O: Sink>(related: u32, start: bool, out: &mut O) -> R
     out.put(text.bytes())
 }
 
-/// Returns the line that says whether a pair is related.
+/// Returns the line that states whether a pair is related.
 pub(crate) fn answer_line(related: bool) -> &'static [u8]
     ensures line { result.now ≡ line_text (Answer related) }
     ensures short { length result.now ≤ 32 }

@@ -1,4 +1,4 @@
-//! The commands, as they are read from words.
+//! The commands, and the words that form them.
 ghost use Rattle.std.specs.Prelude.{◌≡◌};
 ghost use Rattle.std.specs.Option.{option_map};
 

@@ -1,6 +1,6 @@
-//! The program as one call. [`serve`] takes the words of a command, runs the command over a shelf, an
-//! input and an output, and returns a [`Status`]. `specs/Run` defines what a run writes and how it
-//! ends. `specs/Headline` states what a session promises, by the greatest ND-simulation alone.
+//! The program as one call. [`serve`] takes the words of a command, runs the command over a shelf,
+//! an input and an output, and returns a [`Status`]. `specs/Run` defines the text and the status of
+//! a run. `specs/Headline` states what a session promises, by the greatest ND-simulation alone.
 #![tactic(auto)]
 
 mod advise;

@@ -90,7 +90,6 @@ fn push_stages<O: Sink>(stages: &[MakeStage], page: &mut Page, out: &mut O) -> R
     page.push(b"end\n", out)
 }
 
-/// Returns the line of a stage.
 fn stage_piece(stage: &MakeStage) -> Piece
     ensures { result ≡ line_of_stage stage.now }
 {

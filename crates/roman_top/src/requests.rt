@@ -1,4 +1,4 @@
-//! The number of requests for which a command asks for advice.
+//! The number of requests in the command `advise`.
 ghost use Rattle.std.specs.Prelude.{◌≡◌, ◌≤◌};
 ghost use Rattle.std.specs.Option.{option_map};
 ghost use Rattle.roman_cost.specs.declared.limits.TheConstants.{MAX_REQUESTS};

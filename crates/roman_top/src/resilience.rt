@@ -10,8 +10,8 @@ use roman_whatif::Losses;
 use std::alloc::Global;
 use std::sync::ledger::Ledger;
 
-/// Writes the outlook of the starting states, and their outlook without each one and each two of the
-/// services. Takes all memory before it writes anything.
+/// Writes the outlook of the starting states, and their outlook without each one and each two of
+/// the services. Allocates all memory before it writes anything.
 #[tactic(auto, using(crate::proofs::OpeningLemmas::early_does))]
 pub(crate) fn resilience<F: Shelf, O: Sink, L: Ledger>(
     alloc: Global,

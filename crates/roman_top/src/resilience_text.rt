@@ -205,7 +205,7 @@ fn outlook_piece(outlook: &Outlook) -> Piece
         .text(b"\n")
 }
 
-/// Returns the words that say whether the pair is related, up to the number of related pairs.
+/// Returns the words that state whether the pair is related, up to the number of related pairs.
 fn answer_words(composes: bool) -> &'static [u8]
     ensures words { result.now ≡ (if composes then codes " composition related " else codes " none related ") }
     ensures short { length result.now ≤ 32 }

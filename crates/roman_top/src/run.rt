@@ -61,7 +61,7 @@ pub(crate) fn run_shelf<F: Shelf, O: Sink, L: Ledger>(
     )
 }
 
-/// Returns the status of a run whose session had this result. `fault` is the status of a failed read.
+/// Returns the status of a run whose session had this result. After a failed read it is `fault`.
 fn run_status(heard: Result<(), HearError>, fault: Status) -> Status
     ensures { result ≡ run_status fault heard }
 {

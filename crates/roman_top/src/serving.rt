@@ -25,29 +25,29 @@ use std::alloc::Global;
 use std::sync::ledger::Ledger;
 
 /// Runs the command that the words after the program's name form, and returns how it ended. Writes
-/// all text to `out`. Each [`Status`] says what was written by then.
+/// all text to `out`. Each [`Status`] states which text was written.
 ///
-/// - `synth SYSTEM` writes the report on the starting states of the system document that the shelf has
-///   under that name. The status says whether the start pair is related.
-/// - `run SYSTEM` answers the lines of a session of that system, to its end or to its line `quit`. It
-///   reads the lines from `input`. `run SYSTEM SESSION` reads them from the shelf.
-/// - `certify SYSTEM` writes a certificate of which pairs are related. `check SYSTEM CERT` writes the
-///   verdict on the certificate that the shelf has under that name.
-/// - `make N`, for N from 1 to 10, makes a system of N workers and runs a script on a session of it.
-///   It writes how many pairs there are, how many are related and whether the current one is: at the
-///   start, after each of the script's first four lines, and at its end. It asks the shelf for nothing.
-/// - `resilience SYSTEM` writes the number of services and the outlook of the start pair. An outlook
-///   says whether the pair is related, how many pairs are related, and how many services can serve an
-///   action, summed over all actions and all pairs, related or not. Then it writes the outlook after
-///   each one and each two of the services freeze, and after they die.
-/// - `shortest SYSTEM` writes how many pairs there are, how many are related, and how many have each
-///   depth. It writes the depth of the start pair, or that it is related. The depth of a pair is the
-///   least number of requests within which the opponent wins from it.
+/// - `synth SYSTEM` writes the report on the starting states of the system document that the shelf
+///   has under that name. The status states whether the start pair is related.
+/// - `run SYSTEM` answers the lines of a session of that system, to its end or to its line `quit`.
+///   It reads the lines from `input`. `run SYSTEM SESSION` reads them from the shelf.
+/// - `certify SYSTEM` writes the certificate of the pairs that aren't related. `check SYSTEM CERT`
+///   writes the verdict on the certificate that the shelf has under that name.
+/// - `make N`, for N from 1 to 10, makes a system of N workers and runs a script on a session of
+///   it. It writes how many pairs there are, how many are related and whether the current one is:
+///   at the start, after each of the script's first four lines, and at its end. It fetches nothing.
+/// - `resilience SYSTEM` writes the number of services and the outlook of the start pair. An
+///   outlook states whether the pair is related, how many pairs are related, and how many services
+///   can serve an action, summed over all actions and all pairs, related or not. Then it writes the
+///   outlook after each one and each two of the services freeze, and after they die.
+/// - `shortest SYSTEM` writes how many pairs there are, how many are related, and how many have
+///   each depth. It writes the depth of the start pair, or that it is related. The depth of a pair
+///   is the least number of requests within which the opponent wins from it.
 /// - `advise SYSTEM COSTS H`, for H from 1 to 64, writes the least worst cost of H requests by the
 ///   costs on the shelf. For each action that is allowed at the start pair it writes the service to
-///   use, and the worst cost of the H requests then. For each related pair it writes the least worst
-///   cost of 1 to H requests. It writes `answer none` if the start pair isn't related. It writes
-///   `limit 1048576` if there are more values, related pairs times H, than 1,048,576.
+///   use, and the worst cost of the H requests then. For each related pair it writes the least
+///   worst cost of 1 to H requests. It writes `answer none` if the start pair isn't related. It
+///   writes `limit 1048576` if there are more values, related pairs times H, than 1,048,576.
 ///
 /// Returns on every input. Takes bytes from `input` for `run SYSTEM` alone.
 pub fn serve<F: Shelf, I: Source, O: Sink, L: Ledger>(
@@ -58,23 +58,24 @@ pub fn serve<F: Shelf, I: Source, O: Sink, L: Ledger>(
     out: &mut O,
     steps: &mut Steps<L>,
 ) -> Status
-    // What was written and the status are those of a run, unless a fault or running out of memory ended
-    // it. `Served` also says what was written in these cases, and which count of faults rose.
+    // The written text and the status are those of a run, unless a fault or running out of memory
+    // ended it. `Served` also states the written text in these cases, and the count of faults that
+    // rose.
     ensures served { Served (command_of words.now)
         (world_of F.Shelf I.Source O.Sink shelf.old input.old out.old)
         (world_of F.Shelf I.Source O.Sink shelf.new input.new out.new) result }
 
-    // The same for readers, unless a fault or running out of memory ended the run: a session has a turn
-    // for each line, which leads to the state of the line's event, and whose text answers that event.
-    // `HasHeadline` says in terms of the greatest ND-simulation what these texts, the report of `synth`
-    // and the texts of the other commands mean.
+    // The meaning of a run's text, unless a fault or running out of memory ended the run: a session
+    // has a turn for each line, which leads to the state of the line's event, and whose text
+    // answers that event. `HasHeadline` states in terms of the greatest ND-simulation what these
+    // texts, the report of `synth` and the texts of the other commands mean.
     ensures headline { HasHeadline (command_of words.now)
         (world_of F.Shelf I.Source O.Sink shelf.old input.old out.old)
         (world_of F.Shelf I.Source O.Sink shelf.new input.new out.new) result }
 
-    // If no count of faults rises, a command is answered or runs out of memory. It needs an accepted
-    // document within its limit, and a session or certificate that isn't too long. `advise` also needs
-    // costs that are accepted, and no more than 1,048,576 values.
+    // If no count of faults rises, a command is answered or runs out of memory. It needs an
+    // accepted document within its limit, and a session or certificate that isn't too long.
+    // `advise` also needs accepted costs, and at most 1,048,576 values.
     ensures complete { AnswersWherePossible (command_of words.now)
         (world_of F.Shelf I.Source O.Sink shelf.old input.old out.old)
         (world_of F.Shelf I.Source O.Sink shelf.new input.new out.new) result }
@@ -102,7 +103,6 @@ fn put_usage<O: Sink>(out: &mut O) -> Result<(), Failed>
     )
 }
 
-/// Runs a command.
 #[tactic(auto, using(crate::proofs::ServedLemmas::job_served))]
 fn obey<F: Shelf, I: Source, O: Sink, L: Ledger>(
     alloc: Global,

@@ -9,8 +9,8 @@ use roman_rank::{Ranks, write_depths};
 use std::alloc::Global;
 use std::sync::ledger::Ledger;
 
-/// Writes how many pairs there are, how many are related and how many have each depth, and the depth
-/// of the start pair.
+/// Writes how many pairs there are, how many are related and how many have each depth, and the
+/// depth of the start pair.
 #[tactic(auto, using(crate::proofs::OpeningLemmas::early_does))]
 pub(crate) fn shortest<F: Shelf, O: Sink, L: Ledger>(
     alloc: Global,

@@ -9,8 +9,8 @@ use roman_opening::{Status, finish, open_session};
 use std::alloc::Global;
 use std::sync::ledger::Ledger;
 
-/// Writes the report on the starting states of the system document of that name. The status says whether the
-/// start pair is related. Fails as a run of `synth` does, with its line.
+/// Writes the report on the starting states of the system document of that name. The status states
+/// whether the start pair is related. Fails as a run of `synth` does, with its line.
 #[tactic(auto, using(crate::proofs::OpeningLemmas::early_does))]
 pub fn synth_report<F: Shelf, O: Sink, L: Ledger>(
     alloc: Global,

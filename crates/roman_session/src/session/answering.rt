@@ -19,7 +19,6 @@ use roman_io::{Failed, Sink, Steps};
 use roman_text::{Event, Page, Reply, parse_line};
 use std::sync::ledger::Ledger;
 
-/// Returns whether the session takes more lines after an event.
 fn next_after(event: Event<'_>) -> Next
     ensures { result ≡ next_after (Ok (shape_of_event event.entry)) }
 {
@@ -30,12 +29,12 @@ fn next_after(event: Event<'_>) -> Next
 }
 
 impl Session {
-    /// Answers a line, given without its newline: any bytes. Changes the session by the line's event,
-    /// and writes the whole reply before it returns. A refused line changes nothing. Returns `Quit`
-    /// exactly when the line is `quit`. Takes no memory.
+    /// Answers a line: any bytes without a newline. Changes the session by the line's event, and
+    /// writes the whole reply before it returns. A refused line changes nothing. Returns `Quit`
+    /// exactly when the line is `quit`. Allocates no memory.
     ///
-    /// Fails only when the sink's count of faults rose. The session has then changed all the same,
-    /// and a prefix of the reply was written.
+    /// Fails only when the sink's count of faults rose. The session has then changed as without the
+    /// failure, and a prefix of the reply was written.
     #[tactic(auto, using(crate::proofs::StepLemmas::requests_offered))]
     pub fn answer<O: Sink, L: Ledger>(
         &mut self,
@@ -61,11 +60,11 @@ impl Session {
         Ok(next)
     }
 
-    /// Answers a line as [`Session::answer`] does, but pushes the reply on a page. Writes to the sink
-    /// what the page has no room for. Takes no memory.
+    /// Answers a line as [`Session::answer`] does, but pushes the reply on a page. Writes to the
+    /// sink only if the page has no room for the reply. Allocates no memory.
     ///
-    /// Fails only when the sink's count of faults rose. The session has then changed all the same. A
-    /// prefix of the page's bytes and the reply was written, and the page is empty.
+    /// Fails only when the sink's count of faults rose. The session has then changed as without the
+    /// failure. A prefix of the page's bytes and the reply was written, and the page is empty.
     pub fn answer_on<O: Sink, L: Ledger>(
         &mut self,
         line: &[u8],
@@ -90,7 +89,8 @@ impl Session {
     }
 
     /// Changes the session by an event, and pushes the reply on a page. Each event has its own
-    /// function: a reply is large, and a function clears the places of all replies that it may hold.
+    /// function, because a reply is large, and a function clears the places of all replies that it
+    /// may hold.
     #[tactic(auto, using(crate::proofs::AnswerLemmas::done))]
     fn answer_event<O: Sink, L: Ledger>(
         &mut self,
@@ -137,8 +137,8 @@ impl Session {
         }
     }
 
-    /// Answers `explain`. Pushes a refusal on the page. Writes an explanation to the sink, after the
-    /// bytes that the page held.
+    /// Answers `explain`. Pushes a refusal on the page. Writes an explanation to the sink, after
+    /// the bytes that the page held.
     #[tactic(auto, using(crate::proofs::AnswerLemmas::done))]
     fn answer_explain<O: Sink, L: Ledger>(
         &mut self,
@@ -157,8 +157,8 @@ impl Session {
         self.explain(page, out, steps)
     }
 
-    /// Writes the bytes of the page, and then the explanation of the current pair. Requires a current
-    /// pair that isn't related.
+    /// Writes the bytes of the page, and then the explanation of the current pair. Requires a
+    /// current pair that isn't related.
     fn explain<O: Sink, L: Ledger>(
         &mut self,
         page: &mut Page,

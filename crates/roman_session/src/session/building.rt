@@ -17,7 +17,7 @@ use std::alloc::Global;
 use std::sync::ledger::Ledger;
 
 impl Session {
-    /// Begins a session of a library, in its starting states. No other call of a session takes memory.
+    /// Begins a session of a library, in its starting states. No other call of a session allocates.
     ///
     /// Fails with `Limit` exactly when the system has more cells (pairs times actions) than the
     /// library's limit. Fails with `Memory` only when out of memory.

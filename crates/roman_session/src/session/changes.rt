@@ -85,8 +85,8 @@ impl Session {
         page.push_reply(&kept(tally), out)
     }
 
-    /// Answers `join S B STATE` or `join S B STATE loose`, and pushes the reply on a page. A refusal
-    /// changes nothing.
+    /// Answers `join S B STATE` or `join S B STATE loose`, and pushes the reply on a page. A
+    /// refusal changes nothing.
     pub(super) fn answer_join<O: Sink, L: Ledger>(
         &mut self,
         words: JoinWords<'_>,

@@ -153,7 +153,6 @@ impl Session {
         Ok(Joining { seat, state })
     }
 
-    /// Returns whether the service at place `k` is ready.
     #[tactic(auto, using(crate::proofs::RuleLemmas::ready_tests))]
     fn is_ready(&self, k: u8) -> bool
         requires { k < length self.now.parts.seats }

@@ -47,8 +47,8 @@ impl Session {
         Err(Reply::ErrorName)
     }
 
-    /// Returns the place of the behaviour with this name in the catalogue, or `ErrorName` if there is
-    /// none.
+    /// Returns the place of the behaviour with this name in the catalogue, or `ErrorName` if there
+    /// is none.
     pub(super) fn behaviour_place(&self, name: &[u8]) -> Result<u8, Reply>
         ensures finds { FindsPlace (map beh_name self.now.parts.catalogue) name.now result }
         ensures within { IfOk result (λ i. i < length self.now.parts.catalogue) }
@@ -59,8 +59,8 @@ impl Session {
         }
     }
 
-    /// Returns the number of the state with this name of the behaviour at place `i` of the catalogue,
-    /// or `ErrorName` if there is none.
+    /// Returns the number of the state with this name of the behaviour at place `i` of the
+    /// catalogue, or `ErrorName` if there is none.
     pub(super) fn behaviour_state(&self, i: u8, name: &[u8]) -> Result<u8, Reply>
         requires { i < length self.now.parts.catalogue }
         ensures finds { FindsPlace (states_of_behaviour self.now.parts.catalogue i) name.now result }

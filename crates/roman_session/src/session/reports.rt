@@ -13,7 +13,6 @@ use roman_io::{Failed, Sink};
 use roman_rules::SeatSet;
 use roman_text::{Page, ReportLine};
 
-/// Pushes report lines.
 fn push_lines<O: Sink>(lines: &[ReportLine], page: &mut Page, out: &mut O) -> Result<(), Failed>
     ensures gathers { Gathers (O.written out.old) (O.written out.new) page.new
         (page.old ++ lines_text lines.now) result }
@@ -105,7 +104,6 @@ impl Session {
         ]
     }
 
-    /// Returns the report line of the service at place `k`.
     fn service_line(&self, k: u8) -> ReportLine
         requires { k < length self.now.parts.seats }
         ensures { services_from self.now.parts self.now.here k
@@ -135,8 +133,8 @@ impl Session {
         page.push_report_line(&ReportLine::Answer(self.composes()), out)
     }
 
-    /// Pushes a line for each action that the target allows, if the current pair is related, and the
-    /// end of the report.
+    /// Pushes a line for each action that the target allows, if the current pair is related, and
+    /// the end of the report.
     fn push_offers<O: Sink>(&self, page: &mut Page, out: &mut O) -> Result<(), Failed>
         ensures gathers { Gathers (O.written out.old) (O.written out.new) page.new
             (page.old ++ lines_text (offers_and_end self.now.parts self.now.here)) result }

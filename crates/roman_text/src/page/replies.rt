@@ -103,7 +103,8 @@ impl Page {
         self.add_name(b"", env, b"\n");
     }
 
-    /// Adds the line with the number of entries that the replay kept, and the number of pairs added.
+    /// Adds the line with the number of entries that the replay kept, and the number of pairs
+    /// added.
     fn add_kept(&mut self, kept: u32, added: u32)
         requires { length self.old + LONGEST ≤ PIECE_BYTES }
         ensures { self.new ≡ self.old ++ reply_text (reply.Kept kept added) }

@@ -2,7 +2,7 @@ use Rattle.roman_hearing.proofs.Common.{◌≡◌, ◌∷◌, ◌++◌, [], List
 use Rattle.roman_hearing.proofs.HearingLemmas.{hears_part, stops_within, fails_within}
 use Rattle.roman_hearing.proofs.hearing.hear_bytes.Goals as goal
 
--- the bytes after those that were read are a part, a newline and others
+-- the bytes after those that were read are a part, a newline and more bytes
 newline_after : (bytes done rest part back : List ℕ) → bytes ≡ done ++ rest → rest ≡ part ++ 10 ∷ back → bytes ≡ done ++ ((part ++ 10 ∷ []) ++ back)
 newline_after bytes done rest part back split first = grind (arith, (append_assoc part (10 ∷ []) back))
 

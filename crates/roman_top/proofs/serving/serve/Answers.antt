@@ -4,14 +4,14 @@ use Rattle.roman_top.proofs.HeadlineLemmas.{has_headline}
 use Rattle.roman_top.proofs.ServedLemmas.{served_as, usage_served}
 use Rattle.roman_top.proofs.serving.serve.Goals as goal
 
--- words without a shape
+-- words that form no command
 
 pub returns-in-None-clause-served : goal.returns-in-None-clause-served
 returns-in-None-clause-served g c =
     served_as _ None _ _ c.finish.result (sym c.command_of.ensures ∙ ap (option_map command_as) c.in-None.is)
     (usage_served _ _ _ _ _ _ _ _ c.finish.result c.put_usage.result c.put_usage.ensures.puts c.finish.ensures c.put_usage.ensures.cause)
 
--- commands
+-- words that form a command
 
 pub returns-in-Some-clause-headline : goal.returns-in-Some-clause-headline
 returns-in-Some-clause-headline g c =

@@ -1,4 +1,4 @@
--- A handle may be handed to another thread: what it owns may.
+-- A handle may be passed to another thread, because the box that it owns may be.
 use Rattle.roman_c.proofs.Common.{Bool, true, false, Keyless, lone, Ptr, IsSend, owning_send, struct_send, sendable, RawPtr, bool, exits_of, shape, fields, to, Option, None, Some, quiet, lies, Global, frees, held_owns, the_row, the_type}
 use mir.Raw.{raw}
 use Rattle.std.proofs.alloc.Global.TheSendSync as heap

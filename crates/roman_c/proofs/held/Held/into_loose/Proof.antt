@@ -1,4 +1,4 @@
--- `into_loose` gives back the box, where it is full.
+-- `into_loose` returns the box if the handle is full.
 use Rattle.roman_c.proofs.Common.{◌≡◌, List, [], ◌∷◌, ◌++◌, refl, sym, ap, ◌∙◌, subst, lit<, Bool, true, false, Val, vptr, vcons, vnil, SProp, ent, emp, id⊢, ftrue, WpFn, ‵, raw, ◌⊛◌, at_ret, ◌$◌, ◌∵◌, !, qed, by, move, keep, split, fsplit, fjoin, suffices, use0, use1, stop, fld, lit, of_opd, no_more, and_then, first, branches, exec, returns, enter, alloc_all, pass_all, free_all, look_at, get, get_in, sets, sets_last, env, agg, sub, whole, live, fact, fact_i, tables, yes, RattleType, owns, types_at, type_at, plain, Ptr, block_ptr, nothing, layout, Stays, stay_dropped, walk_of, Some, None, Goes-blank, Ptr-Good, after, Good, Some-of, none_of, and_tt, ghosts, proved_at, leaves, ended, clauses}
 use Rattle.std.proofs.alloc.Global.TheLaws as heap_laws
 use Rattle.roman_c.specs.contracts.held.Held as held

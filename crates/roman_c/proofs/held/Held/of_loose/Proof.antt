@@ -1,4 +1,4 @@
--- `of_loose` keeps the box, and says that it is full.
+-- `of_loose` stores the box, and marks the handle as full.
 use Rattle.roman_c.proofs.Common.{◌≡◌, List, [], ◌∷◌, ◌++◌, refl, sym, subst, true, Val, vptr, SProp, ent, emp, id⊢, ftrue, WpFn, ‵, raw, ◌⊛◌, ◌$◌, ◌∵◌, !, qed, by, move, keep, split, fsplit, fjoin, suffices, use0, stop, fld, of_opd, true_lit, no_more, and_then, returns, enter, alloc_all, pass_all, free_all, look_at, get, get_in, sets, agg, sub, whole, fact, fact_i, tables, yes, RattleType, owns, types_at, type_at, plain, Ptr, block_ptr, nothing, Stays, stay_dropped, walk_of, Some, Goes-blank, ghosts, proved_at, leaves}
 use Rattle.std.proofs.alloc.Global.TheLaws as heap_laws
 use Rattle.roman_c.proofs.Values.{both, Loose, loose_good, loose_out, R, Z, word, held_good, held_in}

@@ -1,7 +1,7 @@
 use Rattle.roman_text.proofs.Common.{◌≡◌, ℕ, ◌+◌, ◌≤◌, List, ◌++◌, length, take, ap, ap₂, ◌∙◌, arith, take-add, length-take-le, length-take, take_at, drop_at, take-append-le}
 use Rattle.roman_text.proofs.page.Page.add_bare.Goals as goal
 
--- bytes after a beginning, of which some are kept
+-- the bytes after a prefix, of which the first are kept
 behind : (held bytes rest : List ℕ) (len n : ℕ) → length held ≡ len → n ≤ length bytes → take (len + n) (held ++ (bytes ++ rest)) ≡ held ++ take n bytes
 behind held bytes rest len n long few =
     take-add len n (held ++ (bytes ++ rest)) ∙ ap₂ ◌++◌ (take_at held (bytes ++ rest) len long) (ap (take n) (drop_at held (bytes ++ rest) len long) ∙ take-append-le n bytes rest few)
