@@ -1,5 +1,5 @@
 -- Re-exports the names that the proof pages of this crate use from other crates. Declares nothing.
-pub use Rattle.std.proofs.Common.{Fits, List, ap, arith, bit_and, bit_or, cond, count_by, count_ones, eqb, false, get_or, length, map, not, slice_index, sym, take, true, w32, zero, ℕ, ◌%◌, ◌&&◌, ◌*◌, ◌+◌, ◌-◌, ◌/◌, ◌<◌, ◌==◌, ◌^◌, ◌||◌, ◌∙◌, ◌≡◌, ◌≢◌, ◌≤◌}
+pub use Rattle.std.proofs.Common.{Fits, List, ap, arith, bit_and, bit_or, cond, count_by, count_ones, eqb, false, get_or, length, map, not, sym, take, true, w32, zero, ℕ, ◌%◌, ◌&&◌, ◌*◌, ◌+◌, ◌-◌, ◌/◌, ◌<◌, ◌==◌, ◌^◌, ◌||◌, ◌∙◌, ◌≡◌, ◌≢◌, ◌≤◌}
 pub use Rattle.std.proofs.Math.Seq.{take-add}
 pub use Rattle.std.proofs.lemmas.Bool.{cases_eq, cases_lt, cond-false, cond-true, eq-eqb, ne_eqb}
 pub use Rattle.std.proofs.lemmas.List.{get_or-map, get_or_past, length-map, take_rest}
@@ -10,4 +10,4 @@ pub use Rattle.std.proofs.lemmas.Simd.{Each1-get_or, bitmask_splat, get_or-chunk
 pub use Rattle.std.specs.Int.{bit_at, bit_not, w64}
 pub use Rattle.std.specs.Simd.Lanes.{chunk, put_chunk, zip2}
 unfoldable pub use Rattle.roman_lanes.specs.Rows.{is_on}
-pub use Rattle.roman_lanes.specs.Words.{AreClear, ChangesPart}
+pub use Rattle.roman_lanes.specs.Words.{AreClear, AreClearFrom, ChangesPart}

@@ -1,5 +1,5 @@
 -- Sets of numbers as words: a row is up to 64 neighbouring numbers, with one word for each row and one bit for each number.
-use Rattle.std.specs.Prelude.{◌≡◌, ℕ, ◌+◌, ◌*◌, ◌<◌, ◌≤◌, ◌==◌, ◌&&◌, Bool, false, List, length, slice_index}
+use Rattle.std.specs.Prelude.{◌≡◌, ℕ, ◌+◌, ◌*◌, ◌<◌, ◌≤◌, ◌==◌, ◌&&◌, Bool, false, not, List, length, slice_index}
 use Rattle.std.specs.Int.{bit_at}
 
 -- the bit of a lane is set
@@ -20,3 +20,7 @@ pub record Keeps (lanes x many : ℕ) (test : ℕ → Bool) (old new : List ℕ)
   pub each : (i lane : ℕ) → i < many → lane < lanes → is_on (slice_index new i) lane ≡ (is_on (slice_index old i) lane && test ((x + i) * lanes + lane))
   pub others : (i : ℕ) → many ≤ i → slice_index new i ≡ slice_index old i
   pub none : (i lane : ℕ) → is_on (slice_index old i) lane ≡ false → is_on (slice_index new i) lane ≡ false
+
+-- the new word is the old one without the lanes of another word
+abbrev pub LosesLanes : ℕ → ℕ → ℕ → Type 0
+LosesLanes other old new = (lane : ℕ) → is_on new lane ≡ (is_on old lane && not (is_on other lane))

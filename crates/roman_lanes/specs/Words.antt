@@ -1,5 +1,5 @@
 -- Words that are 0, and slices of words that are changed in part.
-use Rattle.std.specs.Prelude.{◌≡◌, ℕ, ◌<◌, ◌≤◌, List, slice_index}
+use Rattle.std.specs.Prelude.{◌≡◌, ℕ, ◌<◌, ◌≤◌, ◌⊎◌, List, length, slice_index}
 
 -- all words are 0
 abbrev pub AreClear : List ℕ → Type 0
@@ -10,3 +10,19 @@ pub record ChangesPart (makes : ℕ → ℕ → ℕ → Type 0) (from until : �
   pub below : (i : ℕ) → i < from → slice_index new i ≡ slice_index old i
   pub each : (i : ℕ) → from ≤ i → i < until → makes i (slice_index old i) (slice_index new i)
   pub above : (i : ℕ) → until ≤ i → slice_index new i ≡ slice_index old i
+
+-- the words from place `from` up to place `until`, without the last, are 0
+abbrev pub AreClearFrom : List ℕ → ℕ → ℕ → Type 0
+AreClearFrom words from until = (i : ℕ) → from ≤ i → i < until → slice_index words i ≡ 0
+
+-- the two slices have the same words from place `from` up to place `until`, without the last
+abbrev pub SameWithin : ℕ → ℕ → List ℕ → List ℕ → Type 0
+SameWithin from until old new = (i : ℕ) → from ≤ i → i < until → slice_index new i ≡ slice_index old i
+
+-- the two slices have the same words before place `from`, and from place `until` on
+abbrev pub SameOutside : ℕ → ℕ → List ℕ → List ℕ → Type 0
+SameOutside from until old new = (i : ℕ) → (i < from) ⊎ (until ≤ i) → slice_index new i ≡ slice_index old i
+
+-- the change relates each word to its new value
+abbrev pub ChangesEach : (ℕ → ℕ → ℕ → Type 0) → List ℕ → List ℕ → Type 0
+ChangesEach makes old new = (i : ℕ) → i < length old → makes i (slice_index old i) (slice_index new i)

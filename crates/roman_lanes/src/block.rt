@@ -1,7 +1,7 @@
 //! Tests on blocks of neighbouring words or numbers, which are loaded as vectors.
 ghost use Rattle.std.specs.Prelude.{◌≡◌, ℕ, ◌+◌, ◌<◌, ◌≤◌, length, slice_index, count_by, ◌==◌, IsTrue};
 ghost use Rattle.std.specs.Simd.Lanes.{chunk};
-ghost use Rattle.roman_lanes.specs.Words.{AreClear};
+ghost use Rattle.roman_lanes.specs.Words.{AreClear, AreClearFrom};
 
 use std::simd::prelude::*;
 
@@ -26,7 +26,7 @@ pub(crate) fn equal_in(values: &[u32], at: usize, value: u32) -> u32
 /// Returns whether all words of the block that begins at `at` are 0.
 pub(crate) fn is_clear(words: &[u64], at: usize) -> bool
     requires { at + 32 ≤ length words.now }
-    ensures { IsTrue result → (i : ℕ) → at ≤ i → i < at + 32 → slice_index words.now i ≡ 0 }
+    ensures { IsTrue result → AreClearFrom words.now at (at + 32) }
 {
     let front = either(load(words, at), load(words, at + 8));
     let back = either(load(words, at + 16), load(words, at + 24));

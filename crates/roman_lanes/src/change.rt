@@ -3,7 +3,7 @@
 //! Each change is a type. `Change` relates a word to its new value, and `ChangeOf` computes N new
 //! words at once. `change_each` applies a change to a slice.
 ghost use Rattle.std.specs.Prelude.{◌≡◌, ℕ, ◌+◌, ◌<◌, ◌≤◌, length, slice_index};
-ghost use Rattle.roman_lanes.specs.Words.{ChangesPart};
+ghost use Rattle.roman_lanes.specs.Words.{ChangesEach, ChangesPart};
 
 use std::simd::prelude::*;
 
@@ -78,8 +78,7 @@ pub fn change_each<C: ChangeOf<8> + ChangeOf<4> + ChangeOf<2> + ChangeOf<1>>(
 )
     requires { C.suits change.now (length words.old) }
     ensures long { length words.new ≡ length words.old }
-    ensures each { (i : ℕ) → i < length words.old → C.makes change.now i (slice_index words.old i)
-        (slice_index words.new i) }
+    ensures each { ChangesEach (C.makes change.now) words.old words.new }
 {
     if words.len() == 1 {
         change_block::<1, C>(change, words, 0);

@@ -1,6 +1,6 @@
 //! Combining the words of two slices, place by place.
 ghost use Rattle.std.specs.Prelude.{◌≡◌, ℕ, ◌+◌, ◌<◌, ◌≤◌, not, ◌&&◌, length, slice_index, bit_and};
-ghost use Rattle.roman_lanes.specs.Rows.{is_on};
+ghost use Rattle.roman_lanes.specs.Rows.{is_on, LosesLanes};
 
 use crate::block::load;
 use crate::change::{Change, ChangeOf, change_each};
@@ -51,13 +51,12 @@ pub struct Taking<'a> {
 }
 
 impl Change for Taking<'_> {
-    ghost use Rattle.std.specs.Prelude.{◌≡◌, ℕ, ◌≤◌, not, ◌&&◌, length, slice_index};
-    ghost use Rattle.roman_lanes.specs.Rows.{is_on};
+    ghost use Rattle.std.specs.Prelude.{◌≤◌, length, slice_index};
+    ghost use Rattle.roman_lanes.specs.Rows.{LosesLanes};
 
     ghost suits = { λ change many. many ≤ length change.other.now };
 
-    ghost makes = { λ change i old new. (lane : ℕ) →
-        is_on new lane ≡ (is_on old lane && not (is_on (slice_index change.other.now i) lane)) };
+    ghost makes = { λ change i old new. LosesLanes (slice_index change.other.now i) old new };
 }
 
 impl<const N: usize> ChangeOf<N> for Taking<'_> {
@@ -65,8 +64,8 @@ impl<const N: usize> ChangeOf<N> for Taking<'_> {
     fn changed(&self, words: Simd<u64, N>, at: usize) -> Simd<u64, N>
         requires { (many : ℕ) × (at + N ≤ many) × (many ≤ length self.now.other.now) }
         ensures long { length result ≡ N }
-        ensures each { (k : ℕ) → k < N → (lane : ℕ) → is_on (slice_index result k) lane ≡
-            (is_on (slice_index words.entry k) lane && not (is_on (slice_index self.now.other.now (at + k)) lane)) }
+        ensures each { (k : ℕ) → k < N → LosesLanes (slice_index self.now.other.now (at + k))
+            (slice_index words.entry k) (slice_index result k) }
     {
         without(words, load::<N>(self.other, at))
     }

@@ -1,5 +1,6 @@
 //! Searching for a word that isn't 0.
-ghost use Rattle.std.specs.Prelude.{◌≡◌, ◌≢◌, ℕ, ◌<◌, ◌≤◌, length, slice_index, IfSome, IfNone};
+ghost use Rattle.std.specs.Prelude.{◌≢◌, ◌<◌, ◌≤◌, length, slice_index, IfSome, IfNone};
+ghost use Rattle.roman_lanes.specs.Words.{AreClearFrom};
 
 use crate::block::{WORDS, is_clear};
 
@@ -8,9 +9,9 @@ use crate::block::{WORDS, is_clear};
 /// 32 words at a time while they are all 0.
 pub fn first_set(words: &[u64], from: usize) -> Option<usize>
     requires from { from ≤ length words.now }
-    ensures none { IfNone result ((i : ℕ) → from ≤ i → i < length words.now → slice_index words.now i ≡ 0) }
+    ensures none { IfNone result (AreClearFrom words.now from (length words.now)) }
     ensures some { IfSome result (λ i. (from ≤ i) × (i < length words.now) × (slice_index words.now i ≢ 0)) }
-    ensures first { IfSome result (λ i. (j : ℕ) → from ≤ j → j < i → slice_index words.now j ≡ 0) }
+    ensures first { IfSome result (AreClearFrom words.now from) }
 {
     for i in past_clear(words, from)..words.len() {
         if words[i] != 0 {
@@ -24,7 +25,7 @@ pub fn first_set(words: &[u64], from: usize) -> Option<usize>
 fn past_clear(words: &[u64], from: usize) -> usize
     requires { from ≤ length words.now }
     ensures place { from ≤ result × (result ≤ length words.now) }
-    ensures clear { (i : ℕ) → from ≤ i → i < result → slice_index words.now i ≡ 0 }
+    ensures clear { AreClearFrom words.now from result }
 {
     let mut at = from;
     while words.len() - at >= WORDS && is_clear(words, at) {

@@ -1,4 +1,4 @@
-use Rattle.roman_lanes.proofs.Common.{◌≡◌, ℕ, ◌<◌, ◌≤◌, ◌-◌, length, slice_index}
+use Rattle.roman_lanes.proofs.Common.{◌≤◌, ◌-◌, length, AreClearFrom}
 use Rattle.roman_lanes.proofs.search.past_clear.Given as goal
 
 -- all words so far are 0
@@ -6,7 +6,7 @@ abbrev pub invariant-loop-at : goal.invariant-loop-at
 invariant-loop-at l = record {
   place : l.from ≤ l.at;
   within : l.at ≤ length l.words;
-  clear : (i : ℕ) → l.from ≤ i → i < l.at → slice_index l.words i ≡ 0;
+  clear : AreClearFrom l.words l.from l.at;
 }
 
 abbrev pub decreases-loop-at : goal.decreases-loop-at
