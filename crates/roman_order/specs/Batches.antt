@@ -1,5 +1,6 @@
 -- The entries of batches.
-use Rattle.std.specs.Prelude.{◌≡◌, ℕ, ◌<◌, true, false, List, length, flat_map, slice_index}
+use Rattle.std.specs.Prelude.{◌≡◌, ℕ, ◌+◌, ◌<◌, ◌++◌, true, false, List, length, drop, flat_map, slice_index}
+use Rattle.std.specs.List.{AllByRecursion}
 use Rattle.roman_model.specs.Arena.{Entry}
 use Rattle.roman_lanes.specs.Rows.{is_on}
 use Rattle.roman_order.specs.Board.{set_lanes, entries_in}
@@ -13,6 +14,14 @@ pub record IsBatch (lanes : ℕ) (e : Batch) : Type 0 where
 -- the entries of a batch, for rows of `lanes` lanes
 abbrev pub entries_at : ℕ → Batch → List (Entry ℕ)
 entries_at lanes e = entries_in lanes e.row e.lanes e.reason
+
+-- from place i on, the list has the entries of a batch
+abbrev pub HasBatchAt : ℕ → List (Entry ℕ) → ℕ → Batch → Type 0
+HasBatchAt lanes L i e = drop i L ≡ entries_at lanes e ++ drop (i + length (set_lanes e.lanes)) L
+
+-- the rows of the batches are below a bound
+abbrev pub HasRowsBelow : ℕ → List Batch → Type 0
+HasRowsBelow rows es = AllByRecursion (λ e. e.row < rows) es
 
 -- the entries of batches, in order
 abbrev pub entries_of : ℕ → List Batch → List (Entry ℕ)

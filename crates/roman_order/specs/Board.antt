@@ -1,10 +1,10 @@
 -- Orders as callers see them: the removal list, the waiting entries, and the tables beside them.
-use Rattle.std.specs.Prelude.{◌≡◌, true, false, ℕ, ◌+◌, ◌*◌, ◌/◌, ◌%◌, ◌==◌, Bool, List, Option, map, flat_map, slice_index}
+use Rattle.std.specs.Prelude.{◌≡◌, true, false, not, ℕ, ◌+◌, ◌*◌, ◌/◌, ◌%◌, ◌<◌, ◌==◌, Bool, List, [], ◌++◌, Option, map, flat_map, slice_index}
 use Rattle.std.specs.List.{list_any, position_from, filter}
 use Rattle.roman_model.specs.Lists.{below}
 use Rattle.roman_model.specs.Arena.{Entry}
 use Rattle.roman_model.specs.declared.reason.Reason.{Reason}
-use Rattle.roman_lanes.specs.Rows.{is_on}
+use Rattle.roman_lanes.specs.Rows.{is_on, HasLanes, AreRows}
 use Rattle.roman_lanes.specs.Flags.{has_flag}
 
 -- an order: its room and its shape, the removal list, the waiting entries, and the tables beside them
@@ -50,6 +50,38 @@ nodes_of L = map (λ x. x.node) L
 abbrev pub has_entry : List (Entry ℕ) → ℕ → Bool
 has_entry L p = list_any (λ x. p == x.node) L
 
+-- the new order differs from the old one at most in its list
+abbrev pub ChangesOnlyList : Board → Board → Type 0
+ChangesOnlyList old new = new ≡ record old { list = new.list }
+
+-- the new order differs from the old one at most in its waiting entries
+abbrev pub ChangesOnlyWaiting : Board → Board → Type 0
+ChangesOnlyWaiting old new = new ≡ record old { waiting = new.waiting }
+
+-- the new order differs from the old one at most in its marks
+abbrev pub ChangesOnlyMarks : Board → Board → Type 0
+ChangesOnlyMarks old new = new ≡ record old { marks = new.marks }
+
+-- the new order differs from the old one at most in its kept words
+abbrev pub ChangesOnlyBefore : Board → Board → Type 0
+ChangesOnlyBefore old new = new ≡ record old { before = new.before }
+
+-- no entry waits, and the order is unchanged
+abbrev pub StaysIdle : Board → Board → Type 0
+StaysIdle old new = (old.waiting ≡ []) × (new ≡ old)
+
+-- the words have, row by row, the bits of the pairs that aren't listed
+abbrev pub AreWordsOf : Board → List ℕ → Type 0
+AreWordsOf board words = AreRows board.lanes (λ p. not (has_entry board.list p)) words
+
+-- the word has the bits of the pairs of row x that aren't listed
+abbrev pub IsWordOf : Board → ℕ → ℕ → Type 0
+IsWordOf board x word = HasLanes board.lanes x (λ p. not (has_entry board.list p)) word
+
+-- the word's lanes are lanes of a row of the order
+abbrev pub HasLanesOf : Board → ℕ → Type 0
+HasLanesOf board word = (lane : ℕ) → is_on word lane ≡ true → lane < board.lanes
+
 -- no pair of row x at a lane of the word is listed
 abbrev pub AreAliveAt : List (Entry ℕ) → ℕ → ℕ → ℕ → Type 0
 AreAliveAt L lanes x word = (lane : ℕ) → is_on word lane ≡ true → has_entry L (x * lanes + lane) ≡ false
@@ -65,6 +97,10 @@ set_lanes word = filter (is_on word) (below 64)
 -- the entries of the pairs of a row whose lanes are in a word, for one reason
 abbrev pub entries_in : ℕ → ℕ → ℕ → Reason → List (Entry ℕ)
 entries_in lanes row word reason = map (λ lane. as_entry (row * lanes + lane, reason)) (set_lanes word)
+
+-- the order with the entries of a row for the lanes of a word added at the end of its list
+abbrev pub with_row : Board → ℕ → ℕ → Reason → Board
+with_row board x word reason = record board { list = board.list ++ entries_in board.lanes x word reason }
 
 -- the entries of the pairs of `rows` rows from row x on, with one word for each row, for one reason
 abbrev pub entries_in_rows : ℕ → ℕ → ℕ → List ℕ → Reason → List (Entry ℕ)

@@ -1,10 +1,9 @@
 -- How the tables of an order represent its board.
-use Rattle.std.specs.Prelude.{◌≡◌, ℕ, ◌+◌, ◌-◌, ◌*◌, ◌/◌, ◌^◌, ◌<◌, ◌≤◌, ◌==◌, not, true, List, [], ◌∷◌, ◌++◌, drop, length, unwrap_or, slice_index, slice_set, vec_capacity}
+use Rattle.std.specs.Prelude.{◌≡◌, ℕ, ◌+◌, ◌-◌, ◌*◌, ◌/◌, ◌^◌, ◌<◌, ◌≤◌, ◌==◌, true, List, [], ◌∷◌, ◌++◌, drop, length, unwrap_or, slice_index, slice_set, vec_capacity}
 use Rattle.std.specs.List.{IsDistinct, AllByRecursion}
 use Rattle.roman_model.specs.Arena.{Entry}
 use Rattle.roman_model.specs.Lists.{below}
-use Rattle.roman_lanes.specs.Rows.{AreRows}
-use Rattle.roman_order.specs.Board.{Board, set_lanes, nodes_of, has_entry, place_in_list}
+use Rattle.roman_order.specs.Board.{AreWordsOf, Board, set_lanes, nodes_of, has_entry, place_in_list}
 use Rattle.roman_order.specs.Batches.{IsBatch, entries_of}
 use Rattle.roman_order.specs.declared.batch.Batch.{Batch}
 use Rattle.roman_order.specs.declared.order.Order.TheInside.{Inside}
@@ -94,5 +93,5 @@ pub record IsSound (a : Inside) : Type 0 where
   pub counted : AreCounted a.lanes a.count (places_of (length a.batches.items) a.firsts.items) a.batches.items
   pub waits : CanWait a.waiting_lanes (drop a.next a.waiting.items)
   pub stamped : AreStamps (removal_list a) a.stamps.items
-  pub alive : AreRows a.lanes (λ p. not (has_entry (removal_list a) p)) a.words.items
+  pub alive : AreWordsOf (board_of a) a.words.items
   pub sized : IsSized a

@@ -1,7 +1,7 @@
 //! Flags, 64 to a word.
 ghost use Rattle.std.specs.Prelude.{◌≡◌, ◌≢◌, ℕ, ◌+◌, ◌-◌, ◌*◌, ◌/◌, ◌^◌, ◌<◌, ◌≤◌, ◌∷◌, true, false, nat_lt, length, slice_index, IfSome, IfNone};
 ghost use Rattle.roman_lanes.specs.Rows.{is_on};
-ghost use Rattle.roman_lanes.specs.Flags.{has_flag};
+ghost use Rattle.roman_lanes.specs.Flags.{SameFlagsBut, has_flag};
 ghost use Rattle.roman_order.specs.Board.{set_lanes};
 
 use roman_lanes::first_set;
@@ -37,7 +37,7 @@ pub(crate) fn is_set(word: u64, bit: u32) -> bool
 pub(crate) fn set(words: &mut [u64], p: u32)
     requires { p / 64 < length words.old }
     ensures set { has_flag words.new p ≡ true }
-    ensures others { (q : ℕ) → q ≢ p → has_flag words.new q ≡ has_flag words.old q }
+    ensures others { SameFlagsBut p words.old words.new }
 {
     words[(p / 64) as usize] |= 1 << (p % 64);
 }
@@ -123,7 +123,7 @@ pub(crate) fn take_first(words: &mut [u64], i: usize) -> u32
     requires few { 64 * length words.old ≤ 2 ^ 32 }
     ensures was { has_flag words.old result ≡ true }
     ensures taken { has_flag words.new result ≡ false }
-    ensures others { (q : ℕ) → q ≢ result → has_flag words.new q ≡ has_flag words.old q }
+    ensures others { SameFlagsBut result words.old words.new }
 {
     let word = words[i];
     let flag = lowest(word);

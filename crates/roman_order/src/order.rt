@@ -3,7 +3,7 @@ ghost use Rattle.std.specs.Prelude.{◌≡◌, ℕ, ◌+◌, ◌*◌, ◌/◌, �
 ghost use Rattle.std.specs.Prelude.{IfOk, IfSome, IfNone};
 ghost use Rattle.std.specs.List.{IsDistinct};
 ghost use Rattle.roman_model.specs.Lists.{below};
-ghost use Rattle.roman_order.specs.Board.{pairs_of, as_entry, nodes_of, has_entry, is_marked};
+ghost use Rattle.roman_order.specs.Board.{ChangesOnlyWaiting, StaysIdle, pairs_of, as_entry, nodes_of, has_entry, is_marked};
 ghost use Rattle.roman_order.specs.Batches.{IsBatch, entries_at};
 
 mod levels;
@@ -258,9 +258,9 @@ impl Order {
     /// reason. Returns `None` exactly if no entry waits.
     #[tactic(auto, using(crate::proofs::Reading::waiting_rules))]
     pub fn next_waiting(&mut self) -> Option<(u32, Reason)>
-        ensures none { IfNone result ((self.old.waiting ≡ []) × (self.new ≡ self.old)) }
+        ensures none { IfNone result (StaysIdle self.old self.new) }
         ensures first { IfSome result (λ x. self.old.waiting ≡ as_entry x ∷ self.new.waiting) }
-        ensures rest { self.new ≡ record self.old { waiting = self.new.waiting } }
+        ensures rest { ChangesOnlyWaiting self.old self.new }
     {
         if self.next == self.waiting.len() {
             return None;
@@ -283,11 +283,11 @@ impl Order {
     /// order was reopened. Returns `None` exactly if no entry waits.
     #[tactic(auto, using(crate::proofs::Batches::rest_waits))]
     pub fn next_waiting_batch(&mut self) -> Option<Batch>
-        ensures none { IfNone result ((self.old.waiting ≡ []) × (self.new ≡ self.old)) }
+        ensures none { IfNone result (StaysIdle self.old self.new) }
         ensures first { IfSome result (λ e. self.old.waiting
             ≡ entries_at self.old.waiting_lanes e ++ self.new.waiting) }
-        ensures batch { IfSome result (λ e. IsBatch self.old.waiting_lanes e) }
-        ensures rest { self.new ≡ record self.old { waiting = self.new.waiting } }
+        ensures batch { IfSome result (IsBatch self.old.waiting_lanes) }
+        ensures rest { ChangesOnlyWaiting self.old self.new }
     {
         if self.next == self.waiting.len() {
             return None;

@@ -1,7 +1,8 @@
 //! Marks on numbers. The callers mark bands or pairs.
-ghost use Rattle.std.specs.Prelude.{◌≡◌, ◌≢◌, ℕ, ◌+◌, ◌*◌, ◌/◌, ◌<◌, ◌≤◌, true, false, nat_lt, length, IfSome, IfNone};
+ghost use Rattle.std.specs.Prelude.{◌≡◌, ◌≢◌, ℕ, ◌+◌, ◌/◌, ◌<◌, ◌≤◌, true, false, nat_lt, length, IfSome, IfNone};
 ghost use Rattle.std.specs.Borrow.{sem};
-ghost use Rattle.roman_order.specs.Board.{pairs_of, is_marked};
+ghost use Rattle.roman_lanes.specs.Flags.{SameFlagsBut};
+ghost use Rattle.roman_order.specs.Board.{ChangesOnlyMarks, pairs_of, is_marked};
 ghost use Rattle.roman_order.specs.Lending.{LendsMarks};
 
 use super::{Order, refill};
@@ -13,9 +14,9 @@ impl Order {
     pub fn mark(&mut self, p: u32)
         requires { p < pairs_of self.old }
         ensures marked { is_marked self.new p ≡ true }
-        ensures others { (q : ℕ) → q ≢ p → is_marked self.new q ≡ is_marked self.old q }
+        ensures others { SameFlagsBut p self.old.marks self.new.marks }
         ensures long { length self.new.marks ≡ length self.old.marks }
-        ensures rest { self.new ≡ record self.old { marks = self.new.marks } }
+        ensures rest { ChangesOnlyMarks self.old self.new }
     {
         flags::set(&mut self.marks, p);
     }
@@ -34,7 +35,7 @@ impl Order {
         requires { end ≤ pairs_of self.old }
         ensures marked { (p : ℕ) → is_marked self.new p ≡ nat_lt p end }
         ensures long { length self.new.marks ≡ length self.old.marks }
-        ensures rest { self.new ≡ record self.old { marks = self.new.marks } }
+        ensures rest { ChangesOnlyMarks self.old self.new }
     {
         let many = self.marks.len();
         refill(&mut self.marks, many, 0);
@@ -55,7 +56,7 @@ impl Order {
         ensures others { (q : ℕ) → IfSome result (λ p. q ≢ p → is_marked self.new q ≡ is_marked self.old q) }
         ensures same { IfNone result (self.new ≡ self.old) }
         ensures long { length self.new.marks ≡ length self.old.marks }
-        ensures rest { self.new ≡ record self.old { marks = self.new.marks } }
+        ensures rest { ChangesOnlyMarks self.old self.new }
     {
         let many = flags::words_for(end);
         let Some(i) = flags::next_word(&self.marks, many, self.cursor) else {
@@ -81,7 +82,7 @@ impl Order {
     pub fn clear_marks(&mut self)
         ensures unmarked { (p : ℕ) → is_marked self.new p ≡ false }
         ensures long { length self.new.marks ≡ length self.old.marks }
-        ensures rest { self.new ≡ record self.old { marks = self.new.marks } }
+        ensures rest { ChangesOnlyMarks self.old self.new }
     {
         let many = self.marks.len();
         refill(&mut self.marks, many, 0);

@@ -4,7 +4,7 @@ ghost use Rattle.std.specs.List.{AllByRecursion, IsDistinct, filter};
 ghost use Rattle.roman_model.specs.Lists.{below};
 ghost use Rattle.roman_lanes.specs.Rows.{is_on};
 ghost use Rattle.roman_order.specs.Board.{pairs_of, set_lanes, nodes_of, place_in_list};
-ghost use Rattle.roman_order.specs.Batches.{IsBatch, entries_of};
+ghost use Rattle.roman_order.specs.Batches.{HasRowsBelow, IsBatch, entries_of};
 ghost use Rattle.roman_order.specs.Sound.{AreStamps, with_stamps};
 
 use super::reading::batch_in;
@@ -85,7 +85,7 @@ fn lanes_before(word: u64, lane: u32) -> u32
 fn write_stamps(stamps: &mut [u32], batches: &[Batch], lanes: u32)
     requires blank { (p : ℕ) → p < length stamps.old → slice_index stamps.old p ≡ 2 ^ 32 - 1 }
     requires apart { IsDistinct (λ x y. x == y) (nodes_of (entries_of lanes batches.now)) }
-    requires rows { (rows : ℕ) × (rows * lanes ≡ length stamps.old) × AllByRecursion (λ e. e.row < rows) batches.now }
+    requires rows { (rows : ℕ) × (rows * lanes ≡ length stamps.old) × HasRowsBelow rows batches.now }
     requires lanes { 0 < lanes }
     requires each { AllByRecursion (IsBatch lanes) batches.now }
     requires few { length stamps.old < 2 ^ 32 }

@@ -1,7 +1,7 @@
 //! Adds entries to the list.
-ghost use Rattle.std.specs.Prelude.{◌≡◌, ◌≢◌, ℕ, ◌+◌, ◌*◌, ◌<◌, ◌≤◌, true, false, List, [], ◌∷◌, ◌++◌, length, slice_index, vec_capacity};
-ghost use Rattle.roman_lanes.specs.Rows.{is_on};
-ghost use Rattle.roman_order.specs.Board.{pairs_of, as_entry, set_lanes, entries_in, entries_in_rows, has_entry, AreAliveAt};
+ghost use Rattle.std.specs.Prelude.{◌≡◌, ◌≢◌, ℕ, ◌+◌, ◌*◌, ◌<◌, ◌≤◌, true, false, List, [], ◌∷◌, ◌++◌, length, slice_index};
+ghost use Rattle.roman_lanes.specs.Tables.{HasRoom, SameRoom};
+ghost use Rattle.roman_order.specs.Board.{HasLanesOf, pairs_of, as_entry, set_lanes, entries_in_rows, has_entry, with_row, AreAliveAt};
 ghost use Rattle.roman_order.specs.Batches.{IsBatch, TakesLanes, entries_at, entries_of};
 ghost use Rattle.roman_order.specs.Sound.{AreCounted, places_of};
 ghost use Rattle.roman_order.specs.declared.batch.Batch.{Batch};
@@ -41,9 +41,9 @@ impl Order {
     #[inline(always)]
     pub fn push_lanes(&mut self, x: u32, lost: u64, reason: Reason)
         requires row { x < self.old.rows }
-        requires within { (lane : ℕ) → is_on lost lane ≡ true → lane < self.old.lanes }
+        requires within { HasLanesOf self.old lost }
         requires alive { AreAliveAt self.old.list self.old.lanes x lost }
-        ensures { self.new ≡ record self.old { list = self.old.list ++ entries_in self.old.lanes x lost reason } }
+        ensures { self.new ≡ with_row self.old x lost reason }
     {
         self.push_row::<false>(x, lost, reason);
     }
@@ -53,9 +53,9 @@ impl Order {
     #[inline(always)]
     pub fn push_on(&mut self, x: u32, lost: u64, reason: Reason)
         requires row { x < self.old.rows }
-        requires within { (lane : ℕ) → is_on lost lane ≡ true → lane < self.old.lanes }
+        requires within { HasLanesOf self.old lost }
         requires alive { AreAliveAt self.old.list self.old.lanes x lost }
-        ensures { self.new ≡ record self.old { list = self.old.list ++ entries_in self.old.lanes x lost reason } }
+        ensures { self.new ≡ with_row self.old x lost reason }
     {
         self.push_row::<true>(x, lost, reason);
     }
@@ -66,9 +66,9 @@ impl Order {
     #[tactic(auto, using(crate::proofs::Tables::few))]
     fn push_row<const JOINS: bool>(&mut self, x: u32, lost: u64, reason: Reason)
         requires row { x < self.old.rows }
-        requires within { (lane : ℕ) → is_on lost lane ≡ true → lane < self.old.lanes }
+        requires within { HasLanesOf self.old lost }
         requires alive { AreAliveAt self.old.list self.old.lanes x lost }
-        ensures { self.new ≡ record self.old { list = self.old.list ++ entries_in self.old.lanes x lost reason } }
+        ensures { self.new ≡ with_row self.old x lost reason }
     {
         if lost == 0 {
             return;
@@ -90,9 +90,8 @@ impl Order {
     #[tactic(auto, using(crate::proofs::Lanes::has_later))]
     pub fn push_rows(&mut self, x: u32, lost: &[u64], reason: Reason)
         requires rows { x + length lost.now ≤ self.old.rows }
-        requires within { (i lane : ℕ) → is_on (slice_index lost.now i) lane ≡ true → lane < self.old.lanes }
-        requires alive { (i lane : ℕ) → is_on (slice_index lost.now i) lane ≡ true →
-            has_entry self.old.list ((x + i) * self.old.lanes + lane) ≡ false }
+        requires within { (i : ℕ) → HasLanesOf self.old (slice_index lost.now i) }
+        requires alive { (i : ℕ) → AreAliveAt self.old.list self.old.lanes (x + i) (slice_index lost.now i) }
         ensures { self.new
             ≡ record self.old {
               list = self.old.list ++ entries_in_rows self.old.lanes x
@@ -117,16 +116,14 @@ fn add_batch<const JOINS: bool>(
 )
     requires lanes { batch.lanes ≢ 0 }
     requires few { length firsts.old.items ≤ length batches.old.items }
-    requires room { (length batches.old.items < vec_capacity batches.old)
-        × (length firsts.old.items < vec_capacity firsts.old) }
+    requires room { HasRoom batches.old × HasRoom firsts.old }
     ensures entries { (lanes : ℕ) → entries_of lanes batches.new.items
         ≡ entries_of lanes batches.old.items ++ entries_at lanes batch }
     ensures counted { (lanes : ℕ) → AreCounted lanes count
         (places_of (length batches.old.items) firsts.old.items) batches.old.items → IsBatch lanes batch →
         AreCounted lanes (count + length (set_lanes batch.lanes))
         (places_of (length batches.new.items) firsts.new.items) batches.new.items }
-    ensures room { (vec_capacity batches.new ≡ vec_capacity batches.old)
-        × (vec_capacity firsts.new ≡ vec_capacity firsts.old) }
+    ensures room { SameRoom batches.old batches.new × SameRoom firsts.old firsts.new }
 {
     if JOINS && takes(batches, batch) {
         let Some(last) = batches.pop() else {
@@ -159,11 +156,11 @@ fn takes(batches: &[Batch], batch: Batch) -> bool
 #[inline(always)]
 #[tactic(auto, using(crate::proofs::Firsts::push_rules))]
 fn push_first(firsts: &mut Vec<u32>, many: usize, first: u32)
-    requires room { length firsts.old.items < vec_capacity firsts.old }
+    requires room { HasRoom firsts.old }
     requires few { length firsts.old.items ≤ many }
     ensures places { places_of (many + 1) firsts.new.items ≡ places_of many firsts.old.items ++ first ∷ [] }
     ensures few { length firsts.new.items ≤ many + 1 }
-    ensures room { vec_capacity firsts.new ≡ vec_capacity firsts.old }
+    ensures room { SameRoom firsts.old firsts.new }
 {
     if firsts.is_empty() && first as usize == many {
         return;

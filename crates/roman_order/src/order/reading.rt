@@ -1,10 +1,10 @@
 //! Reads the list by places.
-ghost use Rattle.std.specs.Prelude.{◌≡◌, ℕ, ◌+◌, ◌-◌, ◌^◌, ◌<◌, ◌≤◌, true, false, ◌∷◌, ◌++◌, length, take, drop, slice_get, slice_index, slice_index_or, Some};
+ghost use Rattle.std.specs.Prelude.{◌≡◌, ℕ, ◌+◌, ◌-◌, ◌^◌, ◌<◌, ◌≤◌, true, false, ◌∷◌, length, take, drop, slice_get, slice_index, slice_index_or, Some};
 ghost use Rattle.std.specs.List.{AllByRecursion};
 ghost use Rattle.roman_lanes.specs.Rows.{is_on};
 ghost use Rattle.roman_model.specs.Lists.{IsIn};
 ghost use Rattle.roman_order.specs.Board.{as_entry, set_lanes};
-ghost use Rattle.roman_order.specs.Batches.{IsApart, IsBatch, entries_at, entries_of};
+ghost use Rattle.roman_order.specs.Batches.{HasBatchAt, HasRowsBelow, IsApart, IsBatch, entries_of};
 ghost use Rattle.roman_order.specs.Sound.{places_of};
 ghost use Rattle.roman_order.specs.ReadAhead.{AreUnkept, IsBatchOf};
 ghost use Rattle.roman_order.specs.declared.batch.Batch.{Batch};
@@ -30,8 +30,7 @@ impl Order {
     #[tactic(auto, using(crate::proofs::Reading::batch_rules))]
     pub fn batch_at(&self, i: u32, near: usize) -> Batch
         requires { i < length self.now.list }
-        ensures entries { drop i self.now.list
-            ≡ entries_at self.now.lanes result ++ drop (i + length (set_lanes result.lanes)) self.now.list }
+        ensures entries { HasBatchAt self.now.lanes self.now.list i result }
         ensures batch { IsBatch self.now.lanes result }
         ensures within { i + length (set_lanes result.lanes) ≤ length self.now.list }
         ensures row { result.row < self.now.rows }
@@ -152,7 +151,7 @@ fn first_of(firsts: &[u32], many: usize, j: usize, count: u32) -> u32
 /// row. Returns the number of batches if there is none.
 fn next_kept(batches: &[Batch], words: &[u64], from: usize) -> usize
     requires from { from ≤ length batches.now }
-    requires rows { AllByRecursion (λ e. e.row < length words.now) batches.now }
+    requires rows { HasRowsBelow (length words.now) batches.now }
     ensures within { (from ≤ result) × (result ≤ length batches.now) }
     ensures apart { (e : Batch) → IsIn e (take (result - from) (drop from batches.now)) → IsApart words.now e }
 {

@@ -1,14 +1,14 @@
 //! The pairs that aren't listed, as words, and kept copies of these words.
-ghost use Rattle.std.specs.Prelude.{◌≡◌, ℕ, ◌+◌, ◌<◌, ◌≤◌, ◌⊎◌, not, length, slice_index};
-ghost use Rattle.roman_lanes.specs.Rows.{HasLanes, AreRows};
-ghost use Rattle.roman_order.specs.Board.{has_entry};
+ghost use Rattle.std.specs.Prelude.{◌≡◌, ℕ, ◌+◌, ◌<◌, ◌≤◌, length, slice_index};
+ghost use Rattle.roman_lanes.specs.Words.{SameOutside, SameWithin};
+ghost use Rattle.roman_order.specs.Board.{AreWordsOf, ChangesOnlyBefore, IsWordOf};
 
 use super::{Order, rewrite};
 
 impl Order {
     /// Returns the pairs that aren't listed: one word for each row, with bit l for the pair at lane l.
     pub fn words(&self) -> &[u64]
-        ensures alive { AreRows self.now.lanes (λ p. not (has_entry self.now.list p)) result.now }
+        ensures alive { AreWordsOf self.now result.now }
         ensures long { length result.now ≡ self.now.rows }
     {
         &self.words
@@ -24,9 +24,9 @@ impl Order {
 
     /// Stores the present words of all rows as the kept words, in one pass over them.
     pub fn keep_before(&mut self)
-        ensures kept { AreRows self.old.lanes (λ p. not (has_entry self.old.list p)) self.new.before }
+        ensures kept { AreWordsOf self.old self.new.before }
         ensures long { length self.new.before ≡ self.old.rows }
-        ensures rest { self.new ≡ record self.old { before = self.new.before } }
+        ensures rest { ChangesOnlyBefore self.old self.new }
     {
         rewrite(&mut self.before, &self.words);
     }
@@ -35,12 +35,10 @@ impl Order {
     /// kept words of other rows unchanged.
     pub fn keep_rows(&mut self, x: u32, many: u32)
         requires { x + many ≤ self.old.rows }
-        ensures kept { (y : ℕ) → x ≤ y → y < x + many → HasLanes self.old.lanes y
-            (λ p. not (has_entry self.old.list p)) (slice_index self.new.before y) }
-        ensures others { (y : ℕ) → (y < x) ⊎ (x + many ≤ y) →
-            slice_index self.new.before y ≡ slice_index self.old.before y }
+        ensures kept { (y : ℕ) → x ≤ y → y < x + many → IsWordOf self.old y (slice_index self.new.before y) }
+        ensures others { SameOutside x (x + many) self.old.before self.new.before }
         ensures long { length self.new.before ≡ length self.old.before }
-        ensures rest { self.new ≡ record self.old { before = self.new.before } }
+        ensures rest { ChangesOnlyBefore self.old self.new }
     {
         let from = x as usize;
         copy_part(&mut self.before, &self.words, from, from + many as usize);
@@ -51,8 +49,8 @@ impl Order {
 #[inline(always)]
 fn copy_part(table: &mut [u64], words: &[u64], from: usize, to: usize)
     requires { (from ≤ to) × (to ≤ length table.old) × (to ≤ length words.now) }
-    ensures copied { (i : ℕ) → from ≤ i → i < to → slice_index table.new i ≡ slice_index words.now i }
-    ensures others { (i : ℕ) → (i < from) ⊎ (to ≤ i) → slice_index table.new i ≡ slice_index table.old i }
+    ensures copied { SameWithin from to words.now table.new }
+    ensures others { SameOutside from to table.old table.new }
     ensures long { length table.new ≡ length table.old }
 {
     table[from..to].copy_from_slice(&words[from..to]);
