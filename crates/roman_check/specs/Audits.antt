@@ -9,12 +9,14 @@ use Rattle.roman_model.specs.declared.reason.Reason.{Reason}
 use Rattle.roman_lanes.specs.Rows.{AreRows}
 use Rattle.roman_rules.specs.declared.probe.RowProbe.{RowProbe}
 use Rattle.roman_rules.specs.Probes.{HoldsWhereKnown, IsReasonOf}
+use Rattle.roman_rules.specs.declared.rules.Rules.{Ghosts as RulesView}
 use Rattle.roman_check.specs.declared.audit.Audit.{Audit}
 use Rattle.roman_check.specs.declared.audit.Due.{Due}
 use Rattle.roman_check.specs.declared.audit.Front.{Front}
 use Rattle.roman_check.specs.declared.audit.Due.TheVariants.{Head, Count, Body, Nothing}
 use Rattle.roman_check.specs.declared.table.Remaining.{Remaining}
 use Rattle.roman_check.specs.declared.verdict.Why.{Why}
+use Rattle.roman_check.specs.Readings.{entry_with}
 use Rattle.roman_check.specs.Verdicts.{fault_of}
 use Rattle.roman_check.specs.Remain.{Remain}
 
@@ -29,9 +31,17 @@ pub record IsInRows (lanes pairs : ℕ) (left : Remaining) : Type 0 where
   pub in_rows : left.lanes ≡ lanes
   pub room : length left.words.items * lanes ≡ pairs
 
--- the table has one bit for each node of the arena
-abbrev pub IsTableOf : Arena ℕ → ℕ → Remaining → Type 0
-IsTableOf A lanes left = IsInRows lanes (length A.nodes) left
+-- the audit's table has one bit for each pair of the system
+abbrev pub Fits : {J R : Type 0} → RulesView J R → J → Audit → Type 0
+Fits J joint audit = IsInRows (J.lanes joint) (length (J.arena joint).nodes) audit.left
+
+-- the table fits the system, and an entry or the last line is due
+abbrev pub IsInBody : {J R : Type 0} → RulesView J R → J → Audit → Type 0
+IsInBody J joint audit = Fits J joint audit × (audit.due ≡ Body)
+
+-- the pair and the reason are of the system
+abbrev pub IsEntryIn : Arena ℕ → ℕ × Reason → Type 0
+IsEntryIn A x = (x.0 < length A.nodes) × IsReasonOf A x.1
 
 -- the front is the row that was probed last, and is a row of the table
 pub record IsFront (audit : Audit) (front : Front) : Type 0 where
@@ -79,3 +89,7 @@ pub record TakesEntry (A : Arena ℕ) (lanes : ℕ) (old new : Audit) (x : Entry
   pub inside : x.node < length A.nodes
   pub shaped : IsInRows lanes (length A.nodes) new.left
   pub due : new.due ≡ old.due
+
+-- the audit takes the entry of the pair and the reason
+abbrev pub HasTaken : {J R : Type 0} → RulesView J R → J → Audit → Audit → ℕ × Reason → Option Why → Type 0
+HasTaken J joint old new x fault = TakesEntry (J.arena joint) (J.lanes joint) old new (entry_with x) fault

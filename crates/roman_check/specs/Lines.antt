@@ -1,7 +1,10 @@
 -- The line that a checker buffers, and patterns of lines.
 use Rattle.std.specs.Prelude.{◌≡◌, ℕ, ◌+◌, ◌*◌, ◌<◌, ◌≤◌, List, length, take, decimal}
+use Rattle.roman_model.specs.Lists.{IsIn}
+use Rattle.roman_model.specs.Certificate.{reasons}
 use Rattle.roman_check.specs.declared.line.Line.{Line}
 use Rattle.roman_check.specs.declared.line.TheConstants.{ROOM}
+use Rattle.roman_check.specs.declared.pattern.Pattern.{Pattern}
 use Rattle.roman_check.specs.declared.pattern.Shape.{Shape}
 use Rattle.roman_check.specs.Readings.{HasReason}
 
@@ -19,3 +22,11 @@ pub record IsPattern (text : List ℕ) (s : Shape) : Type 0 where
   pub digits : decimal front ≡ take s.place text
   pub rest : HasReason text s.reason (s.place + 2) s.len
   pub short : s.len < 16
+
+-- the text of the pattern is divided by its shape
+abbrev pub HasForm : Pattern → Type 0
+HasForm pattern = IsPattern pattern.text pattern.shape
+
+-- the reason of the pattern is clause 2 or one of so many actions
+abbrev pub HasReasonOf : ℕ → Pattern → Type 0
+HasReasonOf actions pattern = IsIn pattern.shape.reason (reasons actions)

@@ -4,6 +4,7 @@ use Rattle.roman_model.specs.Lines.{lines, text_of_lines, IsLine, AreLines}
 use Rattle.roman_model.specs.Arena.{Arena}
 use Rattle.roman_model.specs.Certificate.{cert_verdict, line_fault, IsClean}
 use Rattle.roman_model.specs.declared.limits.TheConstants.{MAX_CERTIFICATE_BYTES}
+use Rattle.roman_rules.specs.declared.rules.Rules.{Ghosts as RulesView}
 use Rattle.roman_check.specs.declared.verdict.Verdict.{Verdict}
 use Rattle.roman_check.specs.declared.verdict.Verdict.TheVariants.{Rejected}
 use Rattle.roman_check.specs.declared.audit.Due.TheVariants.{Body}
@@ -11,7 +12,7 @@ use Rattle.roman_check.specs.declared.verdict.Why.{Why}
 use Rattle.roman_check.specs.declared.reader.Reader.{Reader}
 use Rattle.roman_check.specs.Verdicts.{fault_of, verdict_of}
 use Rattle.roman_check.specs.Lines.{Holds}
-use Rattle.roman_check.specs.Audits.{HasRead, IsInRows, Judges}
+use Rattle.roman_check.specs.Audits.{Fits, HasRead, IsInRows, Judges}
 
 -- the lines of the text were read, and none of them is at fault
 pub record HasLines (A : Arena ℕ) (text : List (List ℕ)) (reader : Reader) : Type 0 where
@@ -72,9 +73,17 @@ abbrev pub one_if_clean : Option Why → ℕ
 one_if_clean None = 1
 one_if_clean (Some why) = 0
 
+-- the table fits the system, and a line can be counted within the limit
+abbrev pub CanEndLine : {J R : Type 0} → RulesView J R → J → Reader → Type 0
+CanEndLine J joint reader = Fits J joint reader.audit × (reader.lines ≤ MAX_CERTIFICATE_BYTES)
+
+-- the line that consists of the buffered bytes and the last bytes is judged
+abbrev pub JudgesHeld : Arena ℕ → Reader → Reader → List ℕ → Option Why → Type 0
+JudgesHeld A old new last fault = (bytes : List ℕ) → Holds old.line bytes → Judges A old.audit new.audit (bytes ++ last) fault
+
 -- the line that consists of the buffered bytes and the last bytes is judged, and the next one begins if it has no fault
 pub record EndsLine (A : Arena ℕ) (lanes : ℕ) (old new : Reader) (last : List ℕ) (fault : Option Why) : Type 0 where
-  pub judged : (bytes : List ℕ) → Holds old.line bytes → Judges A old.audit new.audit (bytes ++ last) fault
+  pub judged : JudgesHeld A old new last fault
   pub shaped : IsInRows lanes (length A.nodes) new.audit.left
   pub lines : new.lines ≡ old.lines + one_if_clean fault
   pub cleared : fault ≡ None → Holds new.line []
@@ -83,7 +92,11 @@ pub record EndsLine (A : Arena ℕ) (lanes : ℕ) (old new : Reader) (last : Lis
 abbrev pub Decides : Arena ℕ → ℕ → (List ℕ → Type 0) → Verdict → Type 0
 Decides A start IsRead verdict = (bytes : List ℕ) → IsRead bytes → length bytes ≤ MAX_CERTIFICATE_BYTES → cert_verdict A start bytes ≡ verdict_of verdict
 
+-- the verdict is that of each text within the limit of which the bytes were read
+abbrev pub DecidesRead : Arena ℕ → ℕ → Reader → Verdict → Type 0
+DecidesRead A start reader verdict = Decides A start (λ bytes. IsReading A bytes reader) verdict
+
 -- all lines of the ended text were read, or its last line is at fault
 abbrev pub Closes : Arena ℕ → Reader → Reader → Option Why → Type 0
 Closes A old new None = (bytes : List ℕ) → IsReading A bytes old → HasLines A (lines bytes) new
-Closes A old new (Some why) = (start : ℕ) → Decides A start (λ bytes. IsReading A bytes old) (Rejected (new.lines + 1) why)
+Closes A old new (Some why) = (start : ℕ) → DecidesRead A start old (Rejected (new.lines + 1) why)

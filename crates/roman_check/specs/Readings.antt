@@ -41,3 +41,7 @@ pub record HasEntry (pairs actions : ℕ) (bytes : List ℕ) (end : ℕ) (x : En
   pub parts : HasParts bytes x.node x.reason space end
   pub inside : x.node < pairs
   pub given : IsIn x.reason (reasons actions)
+
+-- the bytes begin with the line of the pair and the reason of the triple; its third part is the place of the newline
+abbrev pub BeginsWith : ℕ → ℕ → List ℕ → ℕ × Reason × ℕ → Type 0
+BeginsWith pairs actions bytes = λ line. HasEntry pairs actions bytes line.2 (entry_with (line.0, line.1))

@@ -1,10 +1,11 @@
 -- Tables of the pairs that remain, and pairs that are missing from a list.
-use Rattle.std.specs.Prelude.{◌≡◌, ◌≢◌, ℕ, ◌<◌, ◌==◌, Bool, false, not, ◌&&◌, ◌||◌, List, length, count_by, IsFalse}
+use Rattle.std.specs.Prelude.{◌≡◌, ◌≢◌, ℕ, ◌*◌, ◌<◌, ◌==◌, Bool, false, not, ◌&&◌, ◌||◌, List, length, count_by, IsFalse}
 use Rattle.std.specs.List.{list_any}
 use Rattle.roman_model.specs.Lists.{below}
 use Rattle.roman_model.specs.Arena.{Arena, Entry, is_listed, is_justified}
 use Rattle.roman_model.specs.Certificate.{could_be_listed, reasons}
 use Rattle.roman_lanes.specs.Rows.{is_on, AreRows}
+use Rattle.roman_rules.specs.declared.rules.Rules.{Ghosts as RulesView}
 use Rattle.roman_check.specs.declared.table.Remaining.{Remaining}
 
 -- the table has the bits of the pairs that aren't gone, and their number
@@ -27,6 +28,10 @@ pub record Clears (old new lane : ℕ) : Type 0 where
 -- the pair isn't listed, and clause 2 or one of the first actions is a reason there
 abbrev pub could_be_by : Arena ℕ → List (Entry ℕ) → ℕ → ℕ → Bool
 could_be_by A L actions p = not (is_listed A L p) && list_any (is_justified A (is_listed A L) p) (reasons actions)
+
+-- the words have one bit for each pair of the system
+abbrev pub HaveBits : {J R : Type 0} → RulesView J R → J → List ℕ → Type 0
+HaveBits J joint words = length words * J.lanes joint ≡ length (J.arena joint).nodes
 
 -- no pair before this number is missing from a list whose unlisted pairs have their bits in the words
 pub record NoneMissing (A : Arena ℕ) (lanes : ℕ) (words : List ℕ) (bound : ℕ) : Type 0 where

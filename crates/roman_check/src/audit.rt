@@ -1,9 +1,7 @@
 //! Judges each line of a certificate by the lines read before it.
-ghost use Rattle.std.specs.Prelude.{◌≡◌, ℕ, ◌+◌, ◌*◌, ◌<◌, false, not, IsTrue, List, [], None, Some, length, IfOk, IfSome, if◌then◌else◌};
+ghost use Rattle.std.specs.Prelude.{◌≡◌, ℕ, ◌*◌, ◌<◌, false, not, IsTrue, List, [], None, Some, length, IfOk, IfSome, if◌then◌else◌};
 ghost use Rattle.roman_model.specs.Arena.{Arena, Entry, is_listed};
-ghost use Rattle.roman_rules.specs.Probes.{IsReasonOf};
-ghost use Rattle.roman_check.specs.Readings.{entry_with};
-ghost use Rattle.roman_check.specs.Audits.{IsTableOf, IsFront, AnswersAt, CanProbeAt, HasListed, Judges, TakesEntry};
+ghost use Rattle.roman_check.specs.Audits.{Fits, IsInBody, IsEntryIn, IsFront, AnswersAt, CanProbeAt, HasListed, Judges, HasTaken};
 
 use crate::entries::{entry, is_count, is_end, is_head};
 use crate::missing::first_missing;
@@ -98,7 +96,7 @@ impl Audit {
     pub(crate) fn build<J: Rules>(alloc: Global, joint: &J) -> Result<Audit, AllocError>
         ensures due { IfOk result (λ audit. audit.due ≡ Due.Head) }
         ensures list { IfOk result (λ audit. HasListed (J.arena joint.now) [] audit.left audit.probe) }
-        ensures shaped { IfOk result (λ audit. IsTableOf (J.arena joint.now) (J.lanes joint.now) audit.left) }
+        ensures shaped { IfOk result (Fits J.Rules joint.now) }
     {
         Ok(Audit {
             due: Due::Head,
@@ -132,11 +130,9 @@ impl Audit {
         reason: Reason,
         steps: &mut Steps<L>,
     ) -> Option<Why>
-        requires shaped { IsTableOf (J.arena joint.now) (J.lanes joint.now) self.old.left }
-        requires due { self.old.due ≡ Due.Body }
-        requires entry { (pair < length (J.arena joint.now).nodes) × IsReasonOf (J.arena joint.now) reason }
-        ensures { TakesEntry (J.arena joint.now) (J.lanes joint.now) self.old self.new
-            (entry_with (pair, reason)) result }
+        requires ready { IsInBody J.Rules joint.now self.old }
+        requires entry { IsEntryIn (J.arena joint.now) (pair, reason) }
+        ensures { HasTaken J.Rules joint.now self.old self.new (pair, reason) result }
     {
         joint.known(); // no two pairs have the same number
         let (row, lane) = self.left.place(self.probe.row, pair);
@@ -171,11 +167,10 @@ impl Audit {
     /// that probe is known to hold there. Returns whether it did, and changes nothing otherwise.
     #[inline(always)]
     pub(crate) fn take_known<J: Rules>(&mut self, joint: &J, front: Front, pair: u64) -> bool
-        requires shaped { IsTableOf (J.arena joint.now) (J.lanes joint.now) self.old.left }
-        requires due { self.old.due ≡ Due.Body }
+        requires ready { IsInBody J.Rules joint.now self.old }
         requires front { IsFront self.old front }
-        ensures taken { IsTrue result → TakesEntry (J.arena joint.now) (J.lanes joint.now) self.old self.new
-            (entry_with (pair, self.old.probe.reason)) None }
+        ensures taken { IsTrue result →
+            HasTaken J.Rules joint.now self.old self.new (pair, self.old.probe.reason) None }
         ensures untaken { result ≡ false → self.new ≡ self.old }
         ensures probe { self.new.probe ≡ self.old.probe }
     {
@@ -197,10 +192,9 @@ impl Audit {
         line: &[u8],
         steps: &mut Steps<L>,
     ) -> Option<Why>
-        requires shaped { IsTableOf (J.arena joint.now) (J.lanes joint.now) self.old.left }
-        requires due { self.old.due ≡ Due.Body }
+        requires ready { IsInBody J.Rules joint.now self.old }
         ensures judged { Judges (J.arena joint.now) self.old self.new line.now result }
-        ensures shaped { IsTableOf (J.arena joint.now) (J.lanes joint.now) self.new.left }
+        ensures shaped { Fits J.Rules joint.now self.new }
     {
         joint.known(); // a pair's number fits in 32 bits
         if !is_end(line) {
@@ -225,9 +219,9 @@ impl Audit {
         line: &[u8],
         steps: &mut Steps<L>,
     ) -> Option<Why>
-        requires shaped { IsTableOf (J.arena joint.now) (J.lanes joint.now) self.old.left }
+        requires shaped { Fits J.Rules joint.now self.old }
         ensures judged { Judges (J.arena joint.now) self.old self.new line.now result }
-        ensures shaped { IsTableOf (J.arena joint.now) (J.lanes joint.now) self.new.left }
+        ensures shaped { Fits J.Rules joint.now self.new }
     {
         match self.due {
             Due::Head => self.judge_opening(is_head(line), Due::Count),

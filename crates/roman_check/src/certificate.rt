@@ -4,7 +4,7 @@ ghost use Rattle.roman_io.specs.Faults.{Rose};
 ghost use Rattle.roman_io.specs.Source.{IsAtEnd, GaveAtMost};
 ghost use Rattle.roman_model.specs.Certificate.{TooLong};
 ghost use Rattle.roman_check.specs.Verdicts.{verdict_of};
-ghost use Rattle.roman_check.specs.Audits.{IsTableOf};
+ghost use Rattle.roman_check.specs.Audits.{Fits};
 ghost use Rattle.roman_check.specs.Readers.{IsReading};
 ghost use Rattle.roman_check.specs.Checks.{HaveVerdict, NoneAtFault, SaysGreatest, Comes};
 
@@ -26,7 +26,7 @@ fn read<J: Rules, S: Source, L: Ledger>(
     steps: &mut Steps<L>,
 ) -> Result<Verdict, CheckError>
     requires start { start < length (J.arena joint.now).nodes }
-    requires shaped { IsTableOf (J.arena joint.now) (J.lanes joint.now) reader.old.audit.left }
+    requires shaped { Fits J.Rules joint.now reader.old.audit }
     requires lines { reader.old.lines ≡ 0 }
     requires reading { IsReading (J.arena joint.now) [] reader.old }
     ensures comes { Comes (J.arena joint.now) start (S.rest source.old) (S.rest source.new) (S.faults source.old)

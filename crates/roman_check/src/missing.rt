@@ -4,14 +4,14 @@ ghost use Rattle.std.specs.List.{find};
 ghost use Rattle.roman_model.specs.Arena.{Entry, is_listed};
 ghost use Rattle.roman_model.specs.Certificate.{could_be_listed};
 ghost use Rattle.roman_lanes.specs.Rows.{HasLanes, AreRows};
-ghost use Rattle.roman_check.specs.Remain.{NoneMissing};
+ghost use Rattle.roman_check.specs.Remain.{HaveBits, NoneMissing};
 
 use roman_rules::{BAND, Rules, are_clear, copy_rows};
 
 /// Returns the missing pairs of the row `x`. `words` has the bits of the pairs that aren't listed.
 fn missing_in<J: Rules>(joint: &J, words: &[u64], x: u32) -> u64
     requires row { x < length words.now }
-    requires room { length words.now * J.lanes joint.now ≡ length (J.arena joint.now).nodes }
+    requires room { HaveBits J.Rules joint.now words.now }
     ensures { let A = J.arena joint.now in
         (L : List (Entry ℕ)) → AreRows (J.lanes joint.now) (λ p. not (is_listed A L p)) words.now →
         HasLanes (J.lanes joint.now) x (could_be_listed A L) result }
@@ -31,7 +31,7 @@ fn missing_in<J: Rules>(joint: &J, words: &[u64], x: u32) -> u64
 fn misses_some<J: Rules>(joint: &J, words: &[u64], y: u32, resting: u64, left: &mut [u64]) -> bool
     requires resting { J.is_resting joint.now resting }
     requires band { y * J.band joint.now + J.band joint.now ≤ length words.now }
-    requires room { length words.now * J.lanes joint.now ≡ length (J.arena joint.now).nodes }
+    requires room { HaveBits J.Rules joint.now words.now }
     requires left { length left.old ≡ J.band joint.now }
     ensures long { length left.new ≡ length left.old }
     ensures none { let A = J.arena joint.now in let lanes = J.lanes joint.now in
@@ -63,7 +63,7 @@ fn misses_some<J: Rules>(joint: &J, words: &[u64], y: u32, resting: u64, left: &
 /// pairs that aren't listed. Searches band by band, and stops at the first band that may miss a pair.
 #[tactic(auto, using(std::proofs::lemmas::Nat::row_fits, roman_model::proofs::CallerLemmas::mul_cancel))]
 fn rows_before<J: Rules>(joint: &J, words: &[u64]) -> u32
-    requires { length words.now * J.lanes joint.now ≡ length (J.arena joint.now).nodes }
+    requires { HaveBits J.Rules joint.now words.now }
     ensures { NoneMissing (J.arena joint.now) (J.lanes joint.now) words.now (result * J.lanes joint.now) }
 {
     joint.known(); // a row has 1 to 64 lanes
@@ -82,7 +82,7 @@ fn rows_before<J: Rules>(joint: &J, words: &[u64]) -> u32
 /// Returns the least missing pair: it isn't listed, and a reason holds at it. `words` has the bits
 /// of the pairs that aren't listed. Returns `None` if no pair is missing.
 pub(crate) fn first_missing<J: Rules>(joint: &J, words: &[u64]) -> Option<u32>
-    requires { length words.now * J.lanes joint.now ≡ length (J.arena joint.now).nodes }
+    requires { HaveBits J.Rules joint.now words.now }
     ensures { let A = J.arena joint.now in
         (L : List (Entry ℕ)) → AreRows (J.lanes joint.now) (λ p. not (is_listed A L p)) words.now →
         result ≡ find (could_be_listed A L) A.nodes }

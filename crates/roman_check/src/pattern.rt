@@ -2,8 +2,8 @@
 ghost use Rattle.std.specs.Prelude.{◌≡◌, ℕ, ◌+◌, ◌*◌, ◌<◌, ◌≤◌, length, IfSome, IsTrue, slice_index};
 ghost use Rattle.roman_model.specs.Lists.{IsIn};
 ghost use Rattle.roman_model.specs.Certificate.{reasons};
-ghost use Rattle.roman_check.specs.Readings.{entry_with, HasEntry, HasParts};
-ghost use Rattle.roman_check.specs.Lines.{IsPattern};
+ghost use Rattle.roman_check.specs.Readings.{BeginsWith, HasParts};
+ghost use Rattle.roman_check.specs.Lines.{HasForm, HasReasonOf, IsPattern};
 
 use crate::entries::{ROOM, front_entry};
 use crate::numbers::digit;
@@ -116,7 +116,7 @@ impl Pattern {
     /// Returns the pattern with the line of pair 10,000 and clause 2.
     #[tactic(auto, using(crate::proofs::PatternLemmas::first_number))]
     pub(crate) fn new() -> Pattern
-        ensures pattern { IsPattern result.text result.shape }
+        ensures pattern { HasForm result }
         ensures reason { result.shape.reason ≡ Reason.Final }
     {
         Pattern {
@@ -137,12 +137,12 @@ impl Pattern {
     /// the reason, has `len` bytes, and has its space at place `space`.
     #[tactic(auto, using(crate::proofs::PatternLemmas::large_number))]
     fn learn(&mut self, bytes: &[u8], pair: u32, reason: Reason, space: usize, len: usize)
-        requires pattern { IsPattern self.old.text self.old.shape }
+        requires pattern { HasForm self.old }
         requires room { 16 ≤ length bytes.now }
         requires parts { HasParts bytes.now pair reason space len }
-        ensures pattern { IsPattern self.new.text self.new.shape }
-        ensures reason { (actions : ℕ) → IsIn self.old.shape.reason (reasons actions) →
-            IsIn reason (reasons actions) → IsIn self.new.shape.reason (reasons actions) }
+        ensures pattern { HasForm self.new }
+        ensures reason { (actions : ℕ) → HasReasonOf actions self.old →
+            IsIn reason (reasons actions) → HasReasonOf actions self.new }
     {
         if pair < 100 || len >= WIDTH {
             return;
@@ -160,11 +160,11 @@ impl Pattern {
     /// makes it the pattern if it fits. May return `None` for a valid entry.
     #[inline(never)]
     fn read_anew(&mut self, bytes: &[u8], pairs: u32, actions: u8) -> Option<EntryLine>
-        requires pattern { IsPattern self.old.text self.old.shape }
-        requires reason { IsIn self.old.shape.reason (reasons actions) }
-        ensures pattern { IsPattern self.new.text self.new.shape }
-        ensures reason { IsIn self.new.shape.reason (reasons actions) }
-        ensures read { IfSome result (λ r. HasEntry pairs actions bytes.now r.2 (entry_with (r.0, r.1))) }
+        requires pattern { HasForm self.old }
+        requires reason { HasReasonOf actions self.old }
+        ensures pattern { HasForm self.new }
+        ensures reason { HasReasonOf actions self.new }
+        ensures read { IfSome result (BeginsWith pairs actions bytes.now) }
     {
         let (pair, reason, space, len) = front_entry(bytes, pairs, actions)?;
         self.learn(bytes, pair, reason, space, len);
@@ -175,11 +175,11 @@ impl Pattern {
     /// pattern if it fits. May return `None` for a valid entry.
     #[inline(always)]
     pub(crate) fn read(&mut self, bytes: &[u8], pairs: u32, actions: u8) -> Option<EntryLine>
-        requires pattern { IsPattern self.old.text self.old.shape }
-        requires reason { IsIn self.old.shape.reason (reasons actions) }
-        ensures pattern { IsPattern self.new.text self.new.shape }
-        ensures reason { IsIn self.new.shape.reason (reasons actions) }
-        ensures read { IfSome result (λ r. HasEntry pairs actions bytes.now r.2 (entry_with (r.0, r.1))) }
+        requires pattern { HasForm self.old }
+        requires reason { HasReasonOf actions self.old }
+        ensures pattern { HasForm self.new }
+        ensures reason { HasReasonOf actions self.new }
+        ensures read { IfSome result (BeginsWith pairs actions bytes.now) }
     {
         if bytes.len() < ROOM {
             return None;

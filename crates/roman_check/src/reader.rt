@@ -1,13 +1,11 @@
 //! Reads a certificate line by line, from pieces of any length.
-ghost use Rattle.std.specs.Prelude.{◌≡◌, ℕ, ◌+◌, ◌*◌, ◌<◌, ◌≤◌, ◌++◌, ◌==◌, List, [], length, position, None, Some, IfOk, IfErr};
-ghost use Rattle.roman_model.specs.Lists.{IsIn};
+ghost use Rattle.std.specs.Prelude.{◌≡◌, ℕ, ◌+◌, ◌*◌, ◌<◌, ◌≤◌, ◌==◌, [], length, position, None, Some, IfOk, IfErr};
 ghost use Rattle.roman_model.specs.Lines.{lines};
 ghost use Rattle.roman_model.specs.Arena.{Arena};
-ghost use Rattle.roman_model.specs.Certificate.{reasons};
 ghost use Rattle.roman_rules.specs.Numbered.{IsNumbered};
-ghost use Rattle.roman_check.specs.Lines.{Holds, IsPattern};
-ghost use Rattle.roman_check.specs.Audits.{IsTableOf, Judges};
-ghost use Rattle.roman_check.specs.Readers.{IsReading, HasLines, IsBetween, ReadsPart, ReadsPiece, EndsLine, Closes, Decides};
+ghost use Rattle.roman_check.specs.Lines.{HasForm, HasReasonOf};
+ghost use Rattle.roman_check.specs.Audits.{Fits};
+ghost use Rattle.roman_check.specs.Readers.{IsReading, HasLines, IsBetween, ReadsPart, ReadsPiece, EndsLine, Closes, CanEndLine, Decides, DecidesRead, JudgesHeld};
 
 use crate::audit::{Audit, Due};
 use crate::entries::ROOM;
@@ -40,7 +38,7 @@ impl Reader {
     /// Begins a check, before the first byte. Fails only when out of memory.
     pub(crate) fn build<J: Rules>(alloc: Global, joint: &J) -> Result<Reader, AllocError>
         ensures reading { IfOk result (IsReading (J.arena joint.now) []) }
-        ensures shaped { IfOk result (λ reader. IsTableOf (J.arena joint.now) (J.lanes joint.now) reader.audit.left) }
+        ensures shaped { IfOk result (λ reader. Fits J.Rules joint.now reader.audit) }
         ensures lines { IfOk result (λ reader. reader.lines ≡ 0) }
     {
         Ok(Reader {
@@ -58,10 +56,9 @@ impl Reader {
         last: &[u8],
         steps: &mut Steps<L>,
     ) -> Option<Why>
-        requires shaped { IsTableOf (J.arena joint.now) (J.lanes joint.now) self.old.audit.left }
-        ensures judged { (bytes : List ℕ) → Holds self.old.line bytes →
-            Judges (J.arena joint.now) self.old.audit self.new.audit (bytes ++ last.now) result }
-        ensures shaped { IsTableOf (J.arena joint.now) (J.lanes joint.now) self.new.audit.left }
+        requires shaped { Fits J.Rules joint.now self.old.audit }
+        ensures judged { JudgesHeld (J.arena joint.now) self.old self.new last.now result }
+        ensures shaped { Fits J.Rules joint.now self.new.audit }
         ensures lines { self.new.lines ≡ self.old.lines }
     {
         joint.known(); // a pair's number fits in 32 bits
@@ -82,8 +79,7 @@ impl Reader {
         last: &[u8],
         steps: &mut Steps<L>,
     ) -> Option<Why>
-        requires shaped { IsTableOf (J.arena joint.now) (J.lanes joint.now) self.old.audit.left }
-        requires room { self.old.lines ≤ MAX_CERTIFICATE_BYTES }
+        requires ready { CanEndLine J.Rules joint.now self.old }
         ensures { EndsLine (J.arena joint.now) (J.lanes joint.now) self.old self.new last.now result }
     {
         if let Some(why) = self.judge(joint, last, steps) {
@@ -103,12 +99,12 @@ impl Reader {
         piece: &[u8],
         from: usize,
     ) -> usize
-        requires shaped { IsTableOf (J.arena joint.now) (J.lanes joint.now) self.old.audit.left }
+        requires shaped { Fits J.Rules joint.now self.old.audit }
         requires place { from ≤ length piece.now }
         requires room { self.old.lines + length piece.now ≤ MAX_CERTIFICATE_BYTES + from }
         requires between { IsBetween self.old }
-        requires pattern { IsPattern pattern.now.text pattern.now.shape }
-        requires reason { IsIn pattern.now.shape.reason (reasons (J.arena joint.now).actions) }
+        requires pattern { HasForm pattern.now }
+        requires reason { HasReasonOf (J.arena joint.now).actions pattern.now }
         ensures read { ReadsPart (J.arena joint.now) (J.lanes joint.now) self.old self.new piece.now from result None }
         ensures between { IsBetween self.new }
     {
@@ -144,7 +140,7 @@ impl Reader {
         from: usize,
         steps: &mut Steps<L>,
     ) -> Result<usize, Why>
-        requires shaped { IsTableOf (J.arena joint.now) (J.lanes joint.now) self.old.audit.left }
+        requires shaped { Fits J.Rules joint.now self.old.audit }
         requires place { from ≤ length piece.now }
         requires room { self.old.lines + length piece.now ≤ MAX_CERTIFICATE_BYTES + from }
         ensures read { IfOk result (λ start. ReadsPart (J.arena joint.now)
@@ -181,7 +177,7 @@ impl Reader {
         piece: &[u8],
         steps: &mut Steps<L>,
     ) -> Option<Why>
-        requires shaped { IsTableOf (J.arena joint.now) (J.lanes joint.now) self.old.audit.left }
+        requires shaped { Fits J.Rules joint.now self.old.audit }
         requires room { self.old.lines + length piece.now ≤ MAX_CERTIFICATE_BYTES }
         ensures { ReadsPiece (J.arena joint.now) (J.lanes joint.now) self.old self.new piece.now result }
     {
@@ -206,10 +202,9 @@ impl Reader {
     /// Reads the last line if its newline is missing. Returns its fault, if it has one.
     #[tactic(auto, using(crate::proofs::ReaderLemmas::closed_line))]
     fn close<J: Rules, L: Ledger>(&mut self, joint: &J, steps: &mut Steps<L>) -> Option<Why>
-        requires shaped { IsTableOf (J.arena joint.now) (J.lanes joint.now) self.old.audit.left }
-        requires room { self.old.lines ≤ MAX_CERTIFICATE_BYTES }
+        requires ready { CanEndLine J.Rules joint.now self.old }
         ensures closed { Closes (J.arena joint.now) self.old self.new result }
-        ensures shaped { IsTableOf (J.arena joint.now) (J.lanes joint.now) self.new.audit.left }
+        ensures shaped { Fits J.Rules joint.now self.new.audit }
         ensures lines { self.new.lines ≤ self.old.lines + 1 }
     {
         if self.line.is_empty() {
@@ -244,10 +239,9 @@ impl Reader {
         start: u32,
         steps: &mut Steps<L>,
     ) -> Verdict
-        requires shaped { IsTableOf (J.arena joint.now) (J.lanes joint.now) self.old.audit.left }
-        requires room { self.old.lines ≤ MAX_CERTIFICATE_BYTES }
+        requires ready { CanEndLine J.Rules joint.now self.old }
         requires start { start < length (J.arena joint.now).nodes }
-        ensures { Decides (J.arena joint.now) start (λ bytes. IsReading (J.arena joint.now) bytes self.old) result }
+        ensures { DecidesRead (J.arena joint.now) start self.old result }
     {
         joint.known(); // pairs are numbered from 0
         if let Some(why) = self.close(joint, steps) {

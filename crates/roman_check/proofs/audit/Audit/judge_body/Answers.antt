@@ -14,6 +14,6 @@ returns-in-None-first_missing-clause-judged g c =
     let A = g.J.Rules.arena c.args.joint.now in
     let is = sym c.is_end.ensures ∙ c.if-not-is_end.false in
     let new = record c.args.self.now { due = Nothing } in
-    judged_body A c.args.self.now new c.args.line.now _ c.requires.due (λ L has. grind (arith, end_judged, listed_rows))
+    judged_body A c.args.self.now new c.args.line.now _ c.requires.ready.1 (λ L has. grind (arith, end_judged, listed_rows))
     (λ L has none. subst (λ M. HasListed A M new.left new.probe) (ended_list A c.known.ensures.numbered L c.args.line.now is) has)
     (sym (cond-true (same_numbers end_line c.args.line.now) Nothing c.args.self.now.due is))

@@ -10,9 +10,9 @@ returns-clause-taken g c t =
     let is = c.requires.front in
     let lane : c.in-Some.lane < old.left.lanes = subst (λ n. c.in-Some.lane < n) is.lanes low in
     let at : c.args.front.row * old.left.lanes + c.in-Some.lane ≡ c.args.pair = omega (arith, place, is.first) in
-    let rows : length old.left.words.items * old.left.lanes ≡ length A.nodes = ap (λ n. length old.left.words.items * n) c.requires.shaped.in_rows ∙ c.requires.shaped.room in
+    let rows : length old.left.words.items * old.left.lanes ≡ length A.nodes = ap (λ n. length old.left.words.items * n) c.requires.ready.0.in_rows ∙ c.requires.ready.0.room in
     let inside : c.args.pair < length A.nodes = omega (arith, row_fits c.args.front.row old.left.lanes (length old.left.words.items) old.left.lanes is.inside (omega arith)) in
-    entry_taken A c.known.ensures.numbered _ _ _ _ c.requires.due c.requires.shaped refl inside (subst (λ p. Removes old.left c.remove.new.self p) at c.remove.ensures) (λ L has.
+    entry_taken A c.known.ensures.numbered _ _ _ _ c.requires.ready.1 c.requires.ready.0 refl inside (subst (λ p. Removes old.left c.remove.new.self p) at c.remove.ensures) (λ L has.
     let (known, left) = c.has_known.ensures (length A.nodes) c.args.pair (is_listed A L) at has.remain c.if-not-has_known.false in (
       sym left,
       ap (λ p. is_justified A (is_listed A L) p old.probe.reason) (sym at ∙ ap (λ r. r * old.left.lanes + c.in-Some.lane) is.row) ∙ has.known.each c.in-Some.lane lane (ap (λ w. is_on w c.in-Some.lane) (sym is.known) ∙ known),
