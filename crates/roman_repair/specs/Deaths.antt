@@ -1,5 +1,5 @@
 -- The entries of a removal list after a service's death.
-use Rattle.std.specs.Prelude.{◌≡◌, ◌≢◌, ℕ, ◌+◌, ◌*◌, ◌<◌, true, false, List, ◌++◌, map, drop, length}
+use Rattle.std.specs.Prelude.{◌≡◌, ℕ, ◌+◌, ◌*◌, ◌<◌, true, List, [], ◌++◌, map, drop, length}
 use Rattle.std.specs.List.{filter, remove}
 use Rattle.roman_model.specs.Lists.{IsIn, product_of}
 use Rattle.roman_model.specs.System.{Sys, Seat}
@@ -12,7 +12,7 @@ use Rattle.roman_radix.specs.Rows.{lanes_of}
 use Rattle.roman_lanes.specs.Rows.{is_on}
 use Rattle.roman_joint.specs.NamedSys.{NamedSys, system_of}
 use Rattle.roman_joint.specs.Rows.{lanes_in}
-use Rattle.roman_order.specs.Board.{Board, as_entry, pairs_of, nodes_of, set_lanes, entries_in, has_entry}
+use Rattle.roman_order.specs.Board.{Board, as_entry, pairs_of, nodes_of, set_lanes}
 use Rattle.roman_order.specs.Batches.{IsBatch, entries_at}
 use Rattle.roman_order.specs.declared.batch.Batch.{Batch}
 use Rattle.roman_repair.specs.declared.dying.renaming.Leaver.{Leaver}
@@ -35,11 +35,15 @@ pub record IsPart (sizes : List ℕ) (k width : ℕ) : Type 0 where
   pub lanes : (c : ℕ) × (lanes_of sizes ≡ c * width)
   pub left : (c : ℕ) × (lanes_of (remove sizes k) ≡ c * width)
 
+-- the sizes of the joint without seat k
+abbrev pub sizes_left : NamedSys → ℕ → Sizes
+sizes_left joint k = sizes_without k (sizes_of (system_of joint))
+
 -- the order has the shape of the system without the service that dies
 pub record CanRename (joint : NamedSys) (leaver : Leaver) (order : Board) : Type 0 where
   pub seat : leaver.k < length joint.seats
-  pub shaped : pairs_of order ≡ count (sizes_without leaver.k (sizes_of (system_of joint)))
-  pub lanes : (leaver.lanes ≡ order.lanes) × (order.lanes ≡ lanes_of (sizes_without leaver.k (sizes_of (system_of joint))).seats)
+  pub shaped : pairs_of order ≡ count (sizes_left joint leaver.k)
+  pub lanes : (leaver.lanes ≡ order.lanes) × (order.lanes ≡ lanes_of (sizes_left joint leaver.k).seats)
 
 -- the entries of the batch are in the system
 pub record IsWithin (s : Sys) (e : Batch) : Type 0 where
@@ -56,3 +60,15 @@ pub record AreInPart (n : Sizes) (k first word : ℕ) : Type 0 where
 -- renaming the entries M after the list `new` has the same result as renaming the entries L after the list `old`
 pub record Renames (s : Sys) (k : ℕ) (L M old new : List (Entry ℕ)) : Type 0 where
   pub list : (seat : Seat) → CanChange (Die k seat) s → list_with (sizes_of s) k seat new M ≡ list_with (sizes_of s) k seat old L
+
+-- seat k of the joint, which is this seat, can die
+abbrev pub CanDie : NamedSys → ℕ → Seat → Type 0
+CanDie joint k seat = CanChange (Die k seat) (system_of joint)
+
+-- the pairs `first + i`, for each bit i of the word, are pairs of one part, in which the leaver has one state
+abbrev pub IsPartOf : NamedSys → Leaver → ℕ → ℕ → Type 0
+IsPartOf joint leaver first word = AreInPart (sizes_of (system_of joint)) leaver.k first word
+
+-- all entries of L were renamed and appended
+abbrev pub RenamesAll : NamedSys → Leaver → List (Entry ℕ) → Board → Board → Type 0
+RenamesAll joint leaver L old new = Renames (system_of joint) leaver.k L [] old.list new.list

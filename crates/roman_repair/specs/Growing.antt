@@ -10,10 +10,14 @@ use Rattle.roman_order.specs.Board.{Board, set_lanes}
 use Rattle.roman_order.specs.Batches.{IsBatch, entries_at}
 use Rattle.roman_order.specs.declared.batch.Batch.{Batch}
 use Rattle.roman_joint.specs.Rows.{lanes_in}
+use Rattle.roman_joint.specs.NamedSys.{system_of}
 use Rattle.roman_relation.specs.Shaped.{IsShaped}
+use Rattle.roman_relation.specs.Greatest.{HasCaps}
+use Rattle.roman_relation.specs.declared.relation.Relation.{Relation}
 use Rattle.roman_repair.specs.Alone.{MayProbeAlone}
 use Rattle.roman_repair.specs.Replays.{AreCandidates, AreSlices, candidates, readings_of_entries, with_replay}
-use Rattle.roman_repair.specs.declared.band_probe.BandProbe.{BandProbe}
+use Rattle.roman_repair.specs.Repairs.{SettlesFrom}
+use Rattle.roman_repair.specs.declared.tally.Tally.{Tally}
 use Rattle.roman_repair.specs.declared.replaying.Newcomer.{Newcomer}
 
 -- the entries to which those of a batch from before the newcomer grow
@@ -64,3 +68,15 @@ pub record CanReadmit (s : Sys) (newcomer : Newcomer) (order : Board) : Type 0 w
   pub are : AreCandidates (numbered s) [] (list_grown newcomer order)
   pub may : MayProbeAlone (numbered s) (Some newcomer.k) [] (list_grown newcomer order)
   pub valid : IsOrder (numbered s) (replay_grown s newcomer order)
+
+-- the order of the relation has room for every system within the joint's limit
+abbrev pub IsCapped : Relation → Type 0
+IsCapped relation = HasCaps relation.joint relation.order
+
+-- the entries to which the relation's list grows can be replayed in its system
+abbrev pub CanAdmit : Relation → Newcomer → Type 0
+CanAdmit relation newcomer = CanReadmit (system_of relation.joint) newcomer relation.order
+
+-- the new relation was completed from the replay of the entries to which the old list grows
+abbrev pub Admits : Newcomer → Relation → Relation → Tally → Type 0
+Admits newcomer old new tally = SettlesFrom old.joint (replay_grown (system_of old.joint) newcomer old.order) new tally

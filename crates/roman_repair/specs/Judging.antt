@@ -1,7 +1,8 @@
 -- The state of a replay, and its steps.
-use Rattle.std.specs.Prelude.{◌≡◌, ◌≢◌, ℕ, ◌+◌, ◌<◌, ◌≤◌, true, List, ◌++◌, length}
+use Rattle.std.specs.Prelude.{◌≡◌, ◌≢◌, ℕ, ◌+◌, ◌<◌, ◌≤◌, true, List, [], ◌++◌, length}
 use Rattle.roman_lanes.specs.Rows.{is_on}
 use Rattle.roman_model.specs.Arena.{Arena, Entry, is_listed}
+use Rattle.roman_rules.specs.declared.rules.Rules.{Ghosts as RulesView}
 use Rattle.roman_order.specs.Board.{Board, set_lanes}
 use Rattle.roman_order.specs.Batches.{IsBatch, entries_at}
 use Rattle.roman_order.specs.declared.batch.Batch.{Batch}
@@ -44,3 +45,15 @@ pub record HasJudged (A : Arena ℕ) (row : ℕ) (entries : Batch → List (Entr
 pub record HasJudgedFront (A : Arena ℕ) (row : ℕ) (e : Batch) (left : ℕ) (old new : Board) (probe on : BandProbe) (before after : ℕ) : Type 0 where
   pub fewer : length (set_lanes left) < length (set_lanes e.lanes)
   pub judged : HasJudged A row (entries_at row) e left old new probe on before after
+
+-- each entry for which a batch stands can be replayed in its own row, and other entries after them
+abbrev pub CanReplayLanes : {J R : Type 0} → RulesView J R → J → Board → BandProbe → Batch → Type 0
+CanReplayLanes J joint order probe e = let lanes = J.lanes joint in CanReplayBatch (J.arena joint) lanes lanes (entries_at lanes) order probe e
+
+-- all entries of L are replayed: a replay of L and any later entries goes on to one of the later entries
+abbrev pub ReplaysAll : {J R : Type 0} → RulesView J R → J → List (Entry ℕ) → Board → Board → BandProbe → BandProbe → ℕ → ℕ → Type 0
+ReplaysAll J joint L old new probe on before after = Replays (J.arena joint) (J.lanes joint) L [] old.list new.list probe on before after
+
+-- only the list has changed
+abbrev pub SetsList : Board → Board → Type 0
+SetsList old new = new ≡ record old { list = new.list }

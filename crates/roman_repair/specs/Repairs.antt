@@ -1,12 +1,12 @@
 -- Repairs: the relation is complete for the changed system, and its list begins with the replay.
-use Rattle.std.specs.Prelude.{◌≡◌, ℕ, ◌+◌, ◌≤◌, List, [], map, length, take, drop}
+use Rattle.std.specs.Prelude.{◌≡◌, ℕ, ◌+◌, ◌≤◌, List, [], map, length, take, drop, IsTrue, IsFalse}
 use Rattle.roman_model.specs.System.{Sys, Pair}
 use Rattle.roman_model.specs.Arena.{Entry, IsOrder, replay, fall, readings}
-use Rattle.roman_model.specs.SystemArena.{arena}
+use Rattle.roman_model.specs.SystemArena.{arena, is_ready}
 use Rattle.roman_model.specs.Change.{Change, rename, after}
 use Rattle.roman_model.specs.Numbers.{entry_at}
 use Rattle.roman_joint.specs.NamedSys.{NamedSys, system_of}
-use Rattle.roman_joint.specs.Pairs.{arena_of}
+use Rattle.roman_joint.specs.Pairs.{arena_of, joint_seat}
 use Rattle.roman_joint.specs.Rows.{lanes_in}
 use Rattle.roman_order.specs.Board.{Board}
 use Rattle.roman_relation.specs.Shaped.{IsShaped}
@@ -61,3 +61,11 @@ fall_of relation tally = fall (arena_of relation.joint) (drop tally.kept relatio
 -- the steps are at most the fall plus the number of delegations of an allowed action to a ready seat in the new system
 abbrev pub IsWithinReading : Relation → Tally → ℕ → ℕ → Type 0
 IsWithinReading relation tally before now = now ≤ before + (fall_of relation tally + readings (arena_of relation.joint))
+
+-- the seat at place k takes delegations
+abbrev pub IsReadyAt : NamedSys → ℕ → Type 0
+IsReadyAt joint k = IsTrue (is_ready (joint_seat joint k))
+
+-- the seat at place k is frozen, or there is none
+abbrev pub IsFrozenAt : NamedSys → ℕ → Type 0
+IsFrozenAt joint k = IsFalse (is_ready (joint_seat joint k))

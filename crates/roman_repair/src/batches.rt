@@ -1,8 +1,7 @@
 //! Replays batches. A batch has waiting entries of one row with one reason. An entry is kept if the
 //! entries kept before it justify it.
-ghost use Rattle.std.specs.Prelude.{◌≡◌, []};
 ghost use Rattle.roman_order.specs.Batches.{entries_at};
-ghost use Rattle.roman_repair.specs.Judging.{CanReplayBatch, HasJudgedFront, Replays};
+ghost use Rattle.roman_repair.specs.Judging.{CanReplayLanes, SetsList, HasJudgedFront, ReplaysAll};
 
 use crate::band_probe::BandProbe;
 use crate::lanes::first_alike;
@@ -22,8 +21,7 @@ fn keep_front<J: Rules, L: Ledger>(
     batch: Batch,
     steps: &mut Steps<L>,
 ) -> u64
-    requires { let lanes = J.lanes joint.now in CanReplayBatch (J.arena joint.now) lanes lanes
-        (entries_at lanes) order.old probe.old batch }
+    requires { CanReplayLanes J.Rules joint.now order.old probe.old batch }
     ensures { HasJudgedFront (J.arena joint.now)
         (J.lanes joint.now) batch result order.old order.new probe.old probe.new steps.old steps.new }
 {
@@ -55,11 +53,10 @@ pub(crate) fn keep_lanes<J: Rules, L: Ledger>(
     batch: Batch,
     steps: &mut Steps<L>,
 )
-    requires { let lanes = J.lanes joint.now in CanReplayBatch (J.arena joint.now) lanes lanes
-        (entries_at lanes) order.old probe.old batch }
-    ensures replayed { Replays (J.arena joint.now) (J.lanes joint.now) (entries_at (J.lanes joint.now) batch) []
-        order.old.list order.new.list probe.old probe.new steps.old steps.new }
-    ensures rest { order.new ≡ record order.old { list = order.new.list } }
+    requires { CanReplayLanes J.Rules joint.now order.old probe.old batch }
+    ensures replayed { ReplaysAll J.Rules joint.now (entries_at (J.lanes joint.now) batch)
+        order.old order.new probe.old probe.new steps.old steps.new }
+    ensures rest { SetsList order.old order.new }
 {
     let mut left = batch.lanes;
     'left: while left != 0 {

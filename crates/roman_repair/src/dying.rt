@@ -2,9 +2,9 @@
 ghost use Rattle.std.specs.Prelude.{◌≡◌, ◌+◌, ◌<◌, ◌≤◌, length};
 ghost use Rattle.std.specs.List.{remove};
 ghost use Rattle.roman_model.specs.System.{Seat};
-ghost use Rattle.roman_model.specs.Change.{Die, CanChange};
-ghost use Rattle.roman_joint.specs.NamedSys.{system_of};
+ghost use Rattle.roman_model.specs.Change.{Die};
 ghost use Rattle.roman_relation.specs.Greatest.{IsUpToDate};
+ghost use Rattle.roman_repair.specs.Deaths.{CanDie};
 ghost use Rattle.roman_repair.specs.Repairs.{fall_of, Repairs};
 
 mod renaming;
@@ -27,7 +27,7 @@ pub fn die<L: Ledger>(relation: &mut Relation, k: u8, steps: &mut Steps<L>) -> T
     requires relation { IsUpToDate relation.old }
     requires seat { k < length relation.old.joint.seats }
     ensures joint { relation.new.joint ≡ record relation.old.joint { seats = remove relation.old.joint.seats k } }
-    ensures repaired { (seat : Seat) → CanChange (Die k seat) (system_of relation.old.joint) →
+    ensures repaired { (seat : Seat) → CanDie relation.old.joint k seat →
         Repairs (Die k seat) relation.old relation.new result }
     ensures cost { steps.new ≤ steps.old + fall_of relation.new result }
 {

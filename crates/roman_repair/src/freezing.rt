@@ -1,11 +1,9 @@
 //! Freezes a service.
-ghost use Rattle.std.specs.Prelude.{◌≡◌, ◌+◌, ◌≤◌, length, IsTrue, true};
-ghost use Rattle.roman_model.specs.SystemArena.{is_ready};
+ghost use Rattle.std.specs.Prelude.{◌≡◌, ◌+◌, ◌≤◌, length, true};
 ghost use Rattle.roman_model.specs.Change.{Freeze};
 ghost use Rattle.roman_joint.specs.Changes.{with_frozen};
 ghost use Rattle.roman_relation.specs.Greatest.{IsUpToDate};
-ghost use Rattle.roman_repair.specs.Repairs.{fall_of, Repairs};
-ghost use Rattle.roman_joint.specs.Pairs.{joint_seat};
+ghost use Rattle.roman_repair.specs.Repairs.{fall_of, IsReadyAt, Repairs};
 
 use crate::settling::settle_on;
 use crate::tally::Tally;
@@ -20,7 +18,7 @@ use std::sync::ledger::Ledger;
 /// Requires a complete list.
 pub fn freeze<L: Ledger>(relation: &mut Relation, k: u8, steps: &mut Steps<L>) -> Tally
     requires relation { IsUpToDate relation.old }
-    requires ready { IsTrue (is_ready (joint_seat relation.old.joint k)) }
+    requires ready { IsReadyAt relation.old.joint k }
     ensures joint { relation.new.joint
         ≡ record relation.old.joint { seats = with_frozen relation.old.joint.seats k true } }
     ensures repaired { Repairs (Freeze k) relation.old relation.new result }

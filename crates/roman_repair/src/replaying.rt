@@ -1,6 +1,5 @@
 //! Replays the waiting entries, each for the pairs for which it stands.
-ghost use Rattle.std.specs.Prelude.{◌≡◌, []};
-ghost use Rattle.roman_repair.specs.Judging.{CanReplayBatch, Replays};
+ghost use Rattle.roman_repair.specs.Judging.{CanReplayBatch, SetsList, ReplaysAll};
 ghost use Rattle.roman_repair.specs.Growing.{CanGrow, CanReplayAll, HasReplayedAll, IsGrown, entries_grown};
 ghost use Rattle.roman_repair.specs.Replays.{AreSlices, candidates};
 
@@ -55,9 +54,9 @@ fn keep_grown<J: Rules, L: Ledger>(
     requires ready { CanReplayBatch (J.arena joint.now) (J.lanes joint.now) newcomer.lanes
         (entries_grown newcomer) order.old probe.old batch }
     requires slices { AreSlices (J.lanes joint.now) newcomer.lanes newcomer.states }
-    ensures replayed { Replays (J.arena joint.now) (J.lanes joint.now)
-        (entries_grown newcomer batch) [] order.old.list order.new.list probe.old probe.new steps.old steps.new }
-    ensures rest { order.new ≡ record order.old { list = order.new.list } }
+    ensures replayed { ReplaysAll J.Rules joint.now (entries_grown newcomer batch)
+        order.old order.new probe.old probe.new steps.old steps.new }
+    ensures rest { SetsList order.old order.new }
 {
     joint.known(); // a pair's number fits in 32 bits, a row has 1 to 64 lanes
     if newcomer.states == 1 && newcomer.lanes == joint.lanes() {

@@ -1,8 +1,6 @@
 //! Completes and counts the list, at the end of each repair.
 ghost use Rattle.std.specs.Prelude.{◌+◌, ◌≤◌};
-ghost use Rattle.roman_joint.specs.NamedSys.{system_of};
-ghost use Rattle.roman_relation.specs.Greatest.{HasCaps};
-ghost use Rattle.roman_repair.specs.Growing.{CanReadmit, replay_grown};
+ghost use Rattle.roman_repair.specs.Growing.{CanAdmit, IsCapped, Admits};
 ghost use Rattle.roman_repair.specs.Repairs.{IsBegun, IsWithinReading, fall_of, SettlesFrom};
 
 use crate::replaying::{Newcomer, replay};
@@ -35,10 +33,9 @@ pub(crate) fn replay_and_settle_on<L: Ledger>(
     newcomer: Newcomer,
     steps: &mut Steps<L>,
 ) -> Tally
-    requires caps { HasCaps relation.old.joint relation.old.order }
-    requires ready { CanReadmit (system_of relation.old.joint) newcomer relation.old.order }
-    ensures settled { SettlesFrom relation.old.joint (replay_grown
-        (system_of relation.old.joint) newcomer relation.old.order) relation.new result }
+    requires caps { IsCapped relation.old }
+    requires ready { CanAdmit relation.old newcomer }
+    ensures settled { Admits newcomer relation.old relation.new result }
     ensures cost { IsWithinReading relation.new result steps.old steps.new }
 {
     relation.joint.known(); // allowed actions are in the system, a pair's number fits in 32 bits

@@ -1,11 +1,9 @@
 //! Thaws a service.
-ghost use Rattle.std.specs.Prelude.{◌≡◌, ◌<◌, length, IsFalse, false};
-ghost use Rattle.roman_model.specs.SystemArena.{is_ready};
+ghost use Rattle.std.specs.Prelude.{◌≡◌, ◌<◌, length, false};
 ghost use Rattle.roman_model.specs.Change.{Thaw};
 ghost use Rattle.roman_joint.specs.Changes.{with_frozen};
 ghost use Rattle.roman_relation.specs.Greatest.{IsUpToDate};
-ghost use Rattle.roman_repair.specs.Repairs.{IsWithinReading, Repairs};
-ghost use Rattle.roman_joint.specs.Pairs.{joint_seat};
+ghost use Rattle.roman_repair.specs.Repairs.{IsFrozenAt, IsWithinReading, Repairs};
 
 use crate::replaying::Newcomer;
 use crate::settling::replay_and_settle_on;
@@ -24,7 +22,7 @@ use std::sync::ledger::Ledger;
 pub fn thaw<L: Ledger>(relation: &mut Relation, k: u8, steps: &mut Steps<L>) -> Tally
     requires relation { IsUpToDate relation.old }
     requires place { k < length relation.old.joint.seats }
-    requires frozen { IsFalse (is_ready (joint_seat relation.old.joint k)) }
+    requires frozen { IsFrozenAt relation.old.joint k }
     ensures joint { relation.new.joint
         ≡ record relation.old.joint { seats = with_frozen relation.old.joint.seats k false } }
     ensures repaired { Repairs (Thaw k) relation.old relation.new result }

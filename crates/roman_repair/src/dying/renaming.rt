@@ -1,17 +1,17 @@
 //! Renames the entries of a removal list after a service's death.
 ghost use Rattle.std.specs.Prelude.{◌≡◌, ◌+◌, ◌*◌, ◌<◌, ◌≤◌, ◌||◌, not, [], length, slice_index};
 ghost use Rattle.roman_model.specs.System.{Seat, is_final};
-ghost use Rattle.roman_model.specs.Change.{Die, CanChange};
-ghost use Rattle.roman_model.specs.Numbers.{sizes_of, sizes_without, count};
+ghost use Rattle.roman_model.specs.Change.{Die};
+ghost use Rattle.roman_model.specs.Numbers.{sizes_of, count};
 ghost use Rattle.roman_model.specs.NumberedChange.{rename_numbers};
 ghost use Rattle.roman_radix.specs.Rows.{lanes_of};
 ghost use Rattle.roman_joint.specs.NamedSys.{system_of};
-ghost use Rattle.roman_joint.specs.Rows.{lanes_in};
 ghost use Rattle.roman_order.specs.Board.{pairs_of};
 ghost use Rattle.roman_order.specs.Batches.{entries_at};
-ghost use Rattle.roman_relation.specs.Shaped.{IsShaped};
-ghost use Rattle.roman_repair.specs.Deaths.{AreInPart, CanRename, IsPart, IsWithin, Renames, entries_from};
-ghost use Rattle.roman_joint.specs.Pairs.{joint_pairs, joint_pair, arena_of};
+ghost use Rattle.roman_relation.specs.Greatest.{IsShapedFor, row_lanes};
+ghost use Rattle.roman_repair.specs.Judging.{SetsList};
+ghost use Rattle.roman_repair.specs.Deaths.{IsPartOf, CanDie, CanRename, IsPart, IsWithin, RenamesAll, entries_from, sizes_left};
+ghost use Rattle.roman_joint.specs.Pairs.{joint_pairs, joint_pair};
 
 use crate::lanes::first_part;
 use roman_joint::Joint;
@@ -49,7 +49,7 @@ pub(crate) struct Leaver {
 fn may_go(joint: &Joint, k: u8, p: u32) -> bool
     requires seat { k < length joint.now.seats }
     requires pair { p < joint_pairs joint.now }
-    ensures { (seat : Seat) → CanChange (Die k seat) (system_of joint.now) →
+    ensures { (seat : Seat) → CanDie joint.now k seat →
         result ≡ (not seat.rests || is_final seat.beh (slice_index (joint_pair joint.now p).bs k)) }
 {
     joint.known(); // behaviours are over the environment
@@ -70,10 +70,9 @@ fn rename_part(
     reason: Reason,
 )
     requires ready { CanRename joint.now leaver order.old }
-    requires part { AreInPart (sizes_of (system_of joint.now)) leaver.k first word }
-    ensures list { Renames (system_of joint.now) leaver.k
-        (entries_from first word reason) [] order.old.list order.new.list }
-    ensures rest { order.new ≡ record order.old { list = order.new.list } }
+    requires part { IsPartOf joint.now leaver first word }
+    ensures list { RenamesAll joint.now leaver (entries_from first word reason) order.old order.new }
+    ensures rest { SetsList order.old order.new }
 {
     order.known(); // a row has 1 to 64 lanes
     if !may_go(joint, leaver.k, first) {
@@ -91,9 +90,8 @@ fn rename_part(
 fn rename_row(joint: &Joint, order: &mut Order, leaver: Leaver, batch: Batch)
     requires ready { CanRename joint.now leaver order.old }
     requires within { IsWithin (system_of joint.now) batch }
-    ensures list { Renames (system_of joint.now) leaver.k (entries_at
-        (lanes_in (system_of joint.now)) batch) [] order.old.list order.new.list }
-    ensures rest { order.new ≡ record order.old { list = order.new.list } }
+    ensures list { RenamesAll joint.now leaver (entries_at (row_lanes joint.now) batch) order.old order.new }
+    ensures rest { SetsList order.old order.new }
 {
     let shape = joint.shape();
     shape.known(); // no size is 0, a pair's number fits in 32 bits
@@ -111,13 +109,13 @@ fn rename_row(joint: &Joint, order: &mut Order, leaver: Leaver, batch: Batch)
 /// that no entry waits.
 #[tactic(auto, using(crate::proofs::DeathEntries::renaming))]
 pub(crate) fn rename_list(joint: &Joint, order: &mut Order, k: u8)
-    requires shaped { IsShaped (arena_of joint.now) (lanes_in (system_of joint.now)) order.old }
+    requires shaped { IsShapedFor joint.now order.old }
     requires seat { k < length joint.now.seats }
     requires idle { order.old.waiting ≡ [] }
-    ensures list { (seat : Seat) → CanChange (Die k seat) (system_of joint.now) →
+    ensures list { (seat : Seat) → CanDie joint.now k seat →
         order.new.list ≡ rename_numbers (Die k seat) (sizes_of (system_of joint.now)) order.old.list }
-    ensures pairs { pairs_of order.new ≡ count (sizes_without k (sizes_of (system_of joint.now))) }
-    ensures lanes { order.new.lanes ≡ lanes_of (sizes_without k (sizes_of (system_of joint.now))).seats }
+    ensures pairs { pairs_of order.new ≡ count (sizes_left joint.now k) }
+    ensures lanes { order.new.lanes ≡ lanes_of (sizes_left joint.now k).seats }
     ensures caps { order.new.cap_pairs ≡ order.old.cap_pairs }
     ensures idle { order.new.waiting ≡ [] }
 {
