@@ -59,6 +59,13 @@ row_entry lanes x rows lost reason e inside =
     let (lane, m, same) = from_map (λ lane. as_entry ((x + i) * lanes + lane, reason)) e (set_lanes (slice_index lost i)) k in
     (i, lane, from_below rows i j, (in_lanes (slice_index lost i) lane m).1, same)
 
+-- the list stays, if the rows lose no pair
+pub nothing_lost : (A : Arena ℕ) (gone : ℕ → Bool) (L : List (Entry ℕ)) (lanes x rows : ℕ) (reason : Reason) (lost : List ℕ) → AreLostRows A gone L lanes x rows reason lost → ((i : ℕ) → i < rows → slice_index lost i ≡ 0) → AddsLost A gone lanes x rows reason L L
+nothing_lost A gone L lanes x rows reason lost are clear = record {
+  adds = record { begins = rw (append-nil L) at (begins_append L []); valid = λ less order. order; because = λ p t. inl t };
+  left = λ i lane h l off. grind (arith, are.is i lane h l, clear i h, on_zero, not_from_false, off);
+}
+
 -- the entries of the lost pairs
 pub rows_added : (A : Arena ℕ) → IsNumbered A → (gone : ℕ → Bool) (L : List (Entry ℕ)) (lanes x rows : ℕ) (reason : Reason) (lost : List ℕ) → AreLostRows A gone L lanes x rows reason lost →
     IsDistinct (λ p q. p == q) (nodes_of (L ++ entries_in_rows lanes x rows lost reason)) → AddsLost A gone lanes x rows reason L (L ++ entries_in_rows lanes x rows lost reason)

@@ -51,6 +51,9 @@ pub(crate) fn push_lost<J: Rules>(
         AddsLost A gone (J.lanes joint.now) x (J.band joint.now) reason order.old.list order.new.list }
     ensures rest { order.new ≡ record order.old { list = order.new.list } }
 {
+    if are_clear(lost) {
+        return;
+    }
     joint.known(); // no two pairs have the same number
     order.push_rows(x, lost, reason);
     order.known(); // no pair is listed twice

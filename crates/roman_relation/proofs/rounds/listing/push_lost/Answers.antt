@@ -1,6 +1,9 @@
 use Rattle.roman_relation.proofs.Common.{arith}
-use Rattle.roman_relation.proofs.Pushing.{lost_free, rows_added}
+use Rattle.roman_relation.proofs.Pushing.{lost_free, nothing_lost, rows_added}
 use Rattle.roman_relation.proofs.rounds.listing.push_lost.Goals as goal
+
+pub returns-then-are_clear-clause-adds : goal.returns-then-are_clear-clause-adds
+returns-then-are_clear-clause-adds g c gone are = nothing_lost _ gone _ _ _ _ _ _ are (λ i l. c.are_clear.ensures c.if-are_clear.true i (omega (arith, l, c.requires.long)))
 
 pub push_rows-requires : goal.push_rows-requires
 push_rows-requires g c =
