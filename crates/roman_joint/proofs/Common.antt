@@ -10,7 +10,7 @@ pub use Rattle.std.proofs.lemmas.List.{append-nil, append_assoc, drop-append-le,
 pub use Rattle.std.proofs.lemmas.List.Elements.{All-append, All-drop, All-from_recursion, All-get_or, All-map, All-push, All-take, recursion_from_All}
 pub use Rattle.std.proofs.lemmas.List.Folds.{find-append, list_any_more}
 pub use Rattle.std.proofs.lemmas.List.Sums.{count_by-le-length, length-filter, sum_by-append, sum_by-cons}
-pub use Rattle.std.proofs.lemmas.Nat.{div-add-mod', div-mul-add, div_below, mod-mul-add, mod_below, mul-add-lt, mul-le, pow_pos, same_from_place, shr-shr}
+pub use Rattle.std.proofs.lemmas.Nat.{div-add-mod', le_or_l, le_or_r, div-mul-add, div_below, mod-mul-add, mod_below, mul-add-lt, mul-le, pow_pos, same_from_place, shr-shr}
 pub use Rattle.std.proofs.lemmas.Nat.Bits.{bit_at-zero, bit_at_above, bit_at_cat_high, bit_at_cat_low, shr_and_one}
 pub use Rattle.std.proofs.lemmas.Option.{get_or_from_slice_get, same_Some, slice_get-get_or, slice_get-map, slice_get_past, slice_get_within}
 pub use Rattle.std.proofs.lemmas.Simd.{Each1-get_or, get_or-replicate, get_or-zip2, length-replicate, length-zip2, shifts_fit_splat, zip2_splat, zip2_splat_left}
@@ -18,6 +18,7 @@ pub use Rattle.std.specs.Int.{bit_at, bit_not, w64}
 pub use Rattle.std.specs.List.{AllByRecursion, filter, find, flat_map, list_any, remove}
 pub use Rattle.std.specs.Option.{IsSome, option_map, option_or}
 pub use Rattle.std.specs.Prelude.{bit_or}
+pub use Rattle.std.specs.Simd.Lanes.{fold_l}
 pub use Rattle.roman_lanes.proofs.CallerLemmas.{on_and, on_full, on_full_past, on_not, on_ones, on_or, on_zero}
 unfoldable pub use Rattle.roman_lanes.specs.Flags.{has_flag}
 pub use Rattle.roman_lanes.specs.Rows.{AreRows, HasLanes, Keeps}
@@ -46,7 +47,7 @@ pub use Rattle.roman_joint.specs.Behaviours.{IsSeatBehaviour, IsServiceAt}
 pub use Rattle.roman_joint.specs.Changes.{with_frozen}
 pub use Rattle.roman_joint.specs.Layout.{IsJoint, IsJointOf, named_sys_in}
 pub use Rattle.roman_joint.specs.Marks.{AnyOf, Grows, IsBeforeAction, IsBeforeEnv, IsBeforeSeat, IsBeforeTarget, IsMarked, IsMoved, Marks, action_steps, env_steps, row_at, seat_steps, target_steps}
-pub use Rattle.roman_joint.specs.Moves.{AreLaneMoves, AreMovesOf, AreSeatsIn, AreShifts, HoldsMoves, HoldsSpans, HoldsColumns, IsAdded, IsKept, IsSpan, SuitsEnv, lane_move, lane_moves_from, span_place, system_in, shifts_room, within_in}
+pub use Rattle.roman_joint.specs.Moves.{AreLaneMoves, AreMovesOf, AreSeatsIn, AreShifts, HoldsMoves, HoldsSpans, HoldsColumns, IsAdded, IsKept, IsSpan, LosesMoving, SuitsEnv, lane_move, lane_moves_from, span_place, system_in, shifts_room, within_in}
 pub use Rattle.roman_joint.specs.NamedSys.{IsNamedSys, IsOverEnv, NamedSys, beh_at, cells, named_parts, seat_of, still, system_of}
 pub use Rattle.roman_joint.specs.Names.{beh_states, names_in, names_of_seat}
 pub use Rattle.roman_joint.specs.Outcomes.{AreWithin, IsPairWith, SuitsRows, outcome_number}

@@ -1,5 +1,5 @@
 -- The lanes of words that are combined.
-use Rattle.roman_joint.proofs.Common.{on_full, on_full_past, on_and, list_any_more, ◌≡◌, ℕ, ◌+◌, ◌-◌, ◌*◌, ◌/◌, ◌%◌, ◌^◌, ◌<◌, Bool, true, false, not, ◌&&◌, ◌||◌, List, [], ◌∷◌, length, take, get_or, inl, inr, sym, ap, ◌∙◌, arith, eqb, bit_and, and-true, or-false, bit_at, list_any, cases_lt, lt-ltb, le-ltb, shr_and_one, bit_at-zero, bit_at_cat_low, bit_at_cat_high, bit_at_above, is_on, shr-shr, pow_pos}
+use Rattle.roman_joint.proofs.Common.{on_full, on_full_past, on_zero, LosesMoving, Move, bit_or, fold_l, le_or_l, le_or_r, refl, zero, suc, on_and, list_any_more, ◌≡◌, ℕ, ◌+◌, ◌-◌, ◌*◌, ◌/◌, ◌%◌, ◌^◌, ◌<◌, Bool, true, false, not, ◌&&◌, ◌||◌, List, [], ◌∷◌, length, take, get_or, inl, inr, sym, ap, ◌∙◌, arith, eqb, bit_and, and-true, or-false, bit_at, list_any, cases_lt, lt-ltb, le-ltb, shr_and_one, bit_at-zero, bit_at_cat_low, bit_at_cat_high, bit_at_above, is_on, shr-shr, pow_pos}
 pub use Rattle.roman_lanes.proofs.CallerLemmas.{on_set_same, on_set_other}
 
 -- the first lanes of a full word
@@ -50,3 +50,20 @@ any_one p (x ∷ y ∷ ys) d one = absurd (omega (arith, one))
 -- without a test the value stays
 pub all_pass : (b : Bool) → b ≡ (b && true)
 all_pass b = sym (and-true b)
+
+clear_with : (word : ℕ) (words : List ℕ) → word ≡ 0 → ((i : ℕ) → get_or words i 0 ≡ 0) → (i : ℕ) → get_or (word ∷ words) i 0 ≡ 0
+clear_with word words first rest zero = first
+clear_with word words first rest (suc i) = rest i
+
+-- words that are combined to 0 are 0
+pub all_clear : (words : List ℕ) (first : ℕ) → fold_l bit_or first words ≡ 0 → (first ≡ 0) × ((i : ℕ) → get_or words i 0 ≡ 0)
+all_clear [] first clear = (clear, λ i. refl)
+all_clear (word ∷ words) first clear =
+    let (both, rest) = all_clear words (bit_or first word) clear in
+    (omega (arith, both, le_or_l first word), clear_with word words (omega (arith, both, le_or_r first word)) rest)
+
+-- a word without lanes loses none
+pub loses_nothing : (some : ℕ) (moves : List Move) (alive word : ℕ) → word ≡ 0 → LosesMoving some moves alive word word
+loses_nothing some moves alive word clear =
+    let off : (lane : ℕ) → is_on word lane ≡ false = λ lane. ap (λ w. is_on w lane) clear ∙ on_zero lane in
+    record { each = λ lane l within. grind (arith, (off lane)); none = λ lane none. none }

@@ -13,9 +13,9 @@ use crate::joint::Joint;
 use crate::moving::clear_moving;
 use crate::row::Row;
 use crate::states::service;
-use crate::stripes::{Stripe, clear_alive, clear_state, is_clear, rows_alive_each, set_first};
+use crate::stripes::{Stripe, clear_alive, clear_state, rows_alive_each, set_first};
 use crate::words::less;
-use roman_rules::BAND;
+use roman_rules::{BAND, are_clear};
 
 /// Clears, in `left`, the pairs of a band at which the seat `k` serves the action. The seat is
 /// before the band's own seats.
@@ -147,7 +147,7 @@ fn clear_seats(joint: &Joint, attempt: &Attempt<'_>, alive: &[u64], left: &mut [
         (length (system_of joint.now).seats) left.old left.new }
 {
     for k in 0..joint.seats() {
-        if is_clear(left) {
+        if are_clear(left) {
             return;
         }
         clear_seat(joint, attempt, alive, k, left);

@@ -36,6 +36,9 @@ impl<const N: usize> ChangeOf<N> for Moving<'_> {
         ensures each { (i : ℕ) → i < N → LosesMoving self.now.some self.now.moves.now
             (slice_index self.now.alive.now (at + i)) (slice_index words.entry i) (slice_index result i) }
     {
+        if words.reduce_or() == 0 {
+            return words; // no lane is left to clear
+        }
         let alive = load::<N>(self.alive, at);
         without(words, each_moves_alive(alive, self.moves, self.some))
     }

@@ -1,24 +1,14 @@
 //! Stripes: the words of neighbouring rows, which are combined word by word.
-ghost use Rattle.std.specs.Prelude.{◌≡◌, ◌≢◌, ◌↔◌, IsTrue, ℕ, ◌+◌, ◌-◌, ◌*◌, ◌/◌, ◌%◌, ◌<◌, ◌≤◌, not, ◌&&◌, false, length, slice_index, bit_and};
+ghost use Rattle.std.specs.Prelude.{◌≡◌, ◌≢◌, ℕ, ◌+◌, ◌-◌, ◌*◌, ◌/◌, ◌%◌, ◌<◌, ◌≤◌, not, ◌&&◌, false, length, slice_index, bit_and};
 ghost use Rattle.std.specs.List.{list_any};
 ghost use Rattle.roman_lanes.specs.Rows.{is_on};
 ghost use Rattle.roman_joint.specs.Outcomes.{AreWithin, SuitsRows};
 ghost use Rattle.roman_joint.specs.Bands.{SuitsStripe, LosesStripe, LosesAlive, CanGo};
 
 use crate::outcomes::Outcomes;
-use roman_lanes::{Change, ChangeOf, Taking, both, change_each, first_set, less, load, without};
+use roman_lanes::{Change, ChangeOf, Taking, both, change_each, less, load, without};
 use roman_rules::BAND;
 use std::simd::prelude::*;
-
-/// Returns whether all words are 0.
-pub(crate) fn is_clear(words: &[u64]) -> bool
-    ensures { IsTrue result ↔ ((i : ℕ) → i < length words.now → slice_index words.now i ≡ 0) }
-{
-    match first_set(words, 0) {
-        None => true,
-        Some(_) => false,
-    }
-}
 
 /// Sets all words to 0.
 pub(crate) fn clear(words: &mut [u64])

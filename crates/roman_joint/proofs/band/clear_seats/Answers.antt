@@ -2,12 +2,12 @@ use Rattle.roman_joint.proofs.Common.{◌≡◌, ℕ, ◌*◌, ◌<◌, ◌≤�
 use Rattle.roman_joint.proofs.BandLemmas.{keeps_cut}
 use Rattle.roman_joint.proofs.band.clear_seats.Goals as goal
 
-pub returns-then-is_clear : goal.returns-then-is_clear
-returns-then-is_clear c =
+pub returns-then-are_clear : goal.returns-then-are_clear
+returns-then-are_clear c =
     let n = c.args.joint.now in
     let s = system_of n in
     let before = c.loop-k.invariant in
-    let none : (i : ℕ) → i < band_in s → slice_index c.loop-k.left i ≡ 0 = λ i l. c.is_clear.ensures.0 c.if-is_clear.true i (omega (arith, l, before.long, c.requires.long)) in
+    let none : (i : ℕ) → i < band_in s → slice_index c.loop-k.left i ≡ 0 = λ i l. c.are_clear.ensures c.if-are_clear.true i (omega (arith, l, before.long, c.requires.long)) in
     let seats : c.loop-k.k ≤ length s.seats = omega (arith, c.loop-k-test.true, c.seats-k-end.ensures.count, length-map n.seats (seat_of n.catalogue)) in
     record { long = before.long; left = λ y gone ok rows living. keeps_cut s (y * band_in s) (band_in s) _ _ (λ p. is_beaten (numbered s) gone p c.args.attempt.now.action) _ _ seats none (before.left y gone ok rows living) }
 

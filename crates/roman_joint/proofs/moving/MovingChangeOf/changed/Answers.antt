@@ -1,11 +1,5 @@
-use Rattle.roman_joint.proofs.Common.{◌∙◌, not, ◌&&◌, get_or, ap, arith, is_on}
+use Rattle.roman_joint.proofs.WordLemmas.{all_clear, loses_nothing}
 use Rattle.roman_joint.proofs.moving.MovingChangeOf.changed.Goals as goal
 
-pub returns : goal.returns
-returns g c = record {
-  long = c.without.ensures.long;
-  each = λ i within. record {
-    each = λ lane l h. c.without.ensures.each i lane within ∙ ap (λ b. is_on (get_or c.args.words i 0) lane && not b) (rw (c.load-alive.ensures.each i within) at (c.each_moves_alive.ensures.alive i lane within l h));
-    none = λ lane off. grind (arith, (c.without.ensures.each i lane within));
-  };
-}
+pub returns-then-words-eq0-clause-each : goal.returns-then-words-eq0-clause-each
+returns-then-words-eq0-clause-each g c i l = loses_nothing _ _ _ _ ((all_clear c.args.words 0 c.if-words-eq0.true).1 i)
