@@ -8,12 +8,12 @@ ghost use Rattle.roman_read.specs.Names.{is_name};
 
 use crate::names::{name_of, names_of};
 use crate::tables::{
-    ACTIONS, FLOOR_STATES, FLOOR_STEPS, Row, SHIFT_FINALS, SHIFT_STATES, SHIFT_STEPS,
-    WORKER_FINALS, WORKER_STATES, WORKER_STEPS, WORKERS,
+    ACTIONS, FLOOR_STATES, FLOOR_STEPS, SHIFT_FINALS, SHIFT_STATES, SHIFT_STEPS, WORKER_FINALS,
+    WORKER_STATES, WORKER_STEPS, WORKERS,
 };
 use roman_guard::StateSet;
 use roman_library::Service;
-use roman_parts::{Behaviour, Environment, Target};
+use roman_parts::{Behaviour, Environment, Move, Target, Triple};
 use std::alloc::{AllocError, Global};
 
 /// Makes the environment.
@@ -28,15 +28,13 @@ pub(crate) fn make_floor(alloc: Global) -> Result<Environment, AllocError>
     Ok(floor)
 }
 
-/// A step of a machine.
-type Step = (u8, StateSet, u8, u8);
-
 /// Returns the steps of the table, each with the guard of every environment state.
-fn steps_of(alloc: Global, rows: &[Row]) -> Result<Vec<Step>, AllocError>
-    ensures { IfOk result (λ steps. steps.items ≡ map (λ row. (row.0, 1, row.1, row.2)) rows.now) }
+fn steps_of(alloc: Global, steps: &[Triple]) -> Result<Vec<Move>, AllocError>
+    ensures { IfOk result (λ steps. steps.items ≡ map (λ step. (step.0, 1, step.1, step.2)) steps.now) }
 {
     let always = every_state();
-    rows.iter()
+    steps
+        .iter()
         .map(|&(from, action, to)| (from, always, action, to))
         .collect(alloc)
 }

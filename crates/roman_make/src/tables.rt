@@ -1,7 +1,5 @@
 //! The tables of the made systems.
-
-/// A transition: from a state, by an action, to a state.
-pub(crate) type Row = (u8, u8, u8);
+use roman_parts::Triple;
 
 // The actions.
 const START: u8 = 0;
@@ -37,7 +35,7 @@ pub(crate) static ACTIONS: [&[u8]; 5] = [b"start", b"stop", b"mend", b"hold", b"
 
 pub(crate) static FLOOR_STATES: [&[u8]; 1] = [b"floor"];
 
-pub(crate) static FLOOR_STEPS: [Row; 5] = [
+pub(crate) static FLOOR_STEPS: [Triple; 5] = [
     (FLOOR, START, FLOOR),
     (FLOOR, STOP, FLOOR),
     (FLOOR, MEND, FLOOR),
@@ -49,7 +47,7 @@ pub(crate) static WORKER_STATES: [&[u8]; 3] = [b"idle", b"busy", b"worn"];
 
 pub(crate) static WORKER_FINALS: [u8; 2] = [IDLE, WORN];
 
-pub(crate) static WORKER_STEPS: [Row; 7] = [
+pub(crate) static WORKER_STEPS: [Triple; 7] = [
     (IDLE, START, BUSY),
     (BUSY, STOP, IDLE),
     (BUSY, STOP, WORN),
@@ -67,7 +65,7 @@ pub(crate) static SHIFT_STATES: [&[u8]; 4] = [b"rest", b"work", b"tidy", b"pause
 
 pub(crate) static SHIFT_FINALS: [u8; 1] = [REST];
 
-pub(crate) static SHIFT_STEPS: [Row; 5] = [
+pub(crate) static SHIFT_STEPS: [Triple; 5] = [
     (REST, START, WORK),
     (WORK, STOP, TIDY),
     (TIDY, MEND, REST),

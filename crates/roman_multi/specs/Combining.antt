@@ -1,9 +1,10 @@
 -- Several named targets combined into one: the names and records of the combined parts, and the rules that may forbid them.
-use Rattle.std.specs.Prelude.{◌≡◌, ℕ, Bool, ◌||◌, List, [], ◌∷◌, ◌++◌, map, length, take, is_some, Option, None, Some, Result, Ok, Err, nat_lt, slice_index_or, if◌then◌else◌}
-use Rattle.std.specs.List.{list_any}
+use Rattle.std.specs.Prelude.{◌≡◌, ℕ, Bool, ◌||◌, List, [], ◌∷◌, ◌++◌, map, length, take, is_some, Option, None, Some, Result, Ok, Err, IfOk, nat_lt, slice_index_or, if◌then◌else◌}
+use Rattle.std.specs.List.{filter, list_any}
 use Rattle.roman_model.specs.Lists.{below, is_empty, product_of}
 use Rattle.roman_model.specs.System.{Beh}
 use Rattle.roman_model.specs.Numbers.{states_at}
+use Rattle.roman_model.specs.Several.{are_final}
 use Rattle.roman_model.specs.Combined.{requests_of, target_sizes, combined_env, combined_beh, combined_target}
 use Rattle.roman_model.specs.declared.request.Request.{Request}
 use Rattle.roman_model.specs.declared.limits.TheConstants.{MAX_STATES, MAX_ACTIONS, MAX_NAME_BYTES}
@@ -36,6 +37,14 @@ machines targets = map (λ named. named.target.beh) targets
 abbrev pub requests_in : NamedEnv → List Named → List Request
 requests_in env targets = requests_of env.env.actions (machines targets)
 
+-- the number of combined states
+abbrev pub state_count : List Named → ℕ
+state_count targets = product_of (target_sizes (machines targets))
+
+-- the final combined states, in which each target is final
+abbrev pub final_states : List Named → List ℕ
+final_states targets = filter (λ t. are_final (machines targets) (states_at (target_sizes (machines targets)) t)) (below (state_count targets))
+
 -- ---- names
 
 -- the names, joined with a dash between each two
@@ -50,10 +59,13 @@ names_at [] ts = []
 names_at (named ∷ targets) [] = []
 names_at (named ∷ targets) (t ∷ ts) = slice_index_or named.target.states t [] ∷ names_at targets ts
 
--- the names of the combined states, each of which joins the names of the targets' states
+-- the name of combined state t, which joins the names of the targets' states
+abbrev pub state_name : List Named → ℕ → List ℕ
+state_name targets t = joined (names_at targets (states_at (target_sizes (machines targets)) t))
+
+-- the names of the combined states
 abbrev pub combined_state_names : List Named → List (List ℕ)
-combined_state_names targets =
-    map (λ t. joined (names_at targets (states_at (target_sizes (machines targets)) t))) (below (product_of (target_sizes (machines targets))))
+combined_state_names targets = map (λ t. state_name targets t) (below (state_count targets))
 
 -- the name of a combined action: the name of the action, a dash, and the name of the target that requests it
 abbrev pub request_name : List (List ℕ) → List Named → Request → List ℕ
@@ -79,7 +91,7 @@ has_repeats names = list_any (stands_before names) (below (length names))
 
 -- there are too many combined states
 abbrev pub has_many_states : List Named → Bool
-has_many_states targets = nat_lt MAX_STATES (product_of (target_sizes (machines targets)))
+has_many_states targets = nat_lt MAX_STATES (state_count targets)
 
 -- there are no combined actions, or too many
 abbrev pub has_bad_count : List Request → Bool
@@ -135,6 +147,10 @@ combined_parts env catalogue targets = record {
     beh = combined_target env.env.states (requests_in env targets) (machines targets);
   };
 }
+
+-- the combination has these parts, if it is made
+abbrev pub Makes : Result Combined CombineError → PlainCombined → Type 0
+Makes result parts = IfOk result (λ made. plain_combined made ≡ parts)
 
 -- the target is over the environment
 pub record IsOf (env : NamedEnv) (target : NamedTarget) : Type 0 where

@@ -1,5 +1,6 @@
 -- The combined actions, and the steps by them, as lists.
-use Rattle.std.specs.Prelude.{◌≡◌, ℕ, ◌^◌, ◌&&◌, Bool, not, List, [], map, length, slice_index, slice_set, slice_get, Option, None, Some, Result, Ok, Err, IsTrue, IsFalse}
+use Rattle.std.specs.Prelude.{◌≡◌, ℕ, ◌^◌, ◌<◌, ◌&&◌, Bool, not, List, [], map, length, slice_index, slice_set, slice_get, Option, None, Some, Result, Ok, Err, All, IfOk, IsTrue, IsFalse}
+use Rattle.std.specs.Global.{Vec}
 use Rattle.std.specs.List.{filter, flat_map, list_all}
 use Rattle.roman_model.specs.Lists.{below, is_empty}
 use Rattle.roman_model.specs.Numbers.{Sizes, states_number}
@@ -17,6 +18,22 @@ use Rattle.roman_multi.specs.declared.error.CombineError.TheVariants as error
 -- the bytes are a name, or would be if they weren't too long
 abbrev pub is_word : List ℕ → Bool
 is_word bytes = not (is_empty bytes) && list_all is_name_byte bytes
+
+-- the returned vector has these items
+abbrev pub ReturnsList : {X E : Type 0} → Result (Vec X) E → List X → Type 0
+ReturnsList result items = IfOk result (λ made. made.items ≡ items)
+
+-- each byte may be in a name
+abbrev pub AreNameBytes : List ℕ → Type 0
+AreNameBytes bytes = IsTrue (list_all is_name_byte bytes)
+
+-- the bytes are a word
+abbrev pub IsWord : List ℕ → Type 0
+IsWord bytes = IsTrue (is_word bytes)
+
+-- the actions of the requests are actions of the environment
+abbrev pub AreOver : NamedEnv → List Request → Type 0
+AreOver env requests = All (λ r. r.action < env.env.actions) requests
 
 -- the sizes of the targets as sizes of pairs in which the target and the environment have one state each
 abbrev pub flat : List ℕ → Sizes

@@ -1,12 +1,12 @@
 //! The requests of the targets.
-ghost use Rattle.std.specs.Prelude.{◌≡◌, ◌<◌, ◌≤◌, ◌++◌, length, All, IfOk, not};
+ghost use Rattle.std.specs.Prelude.{◌≡◌, ◌<◌, ◌≤◌, ◌++◌, length, All, not, OnOk};
 ghost use Rattle.std.specs.List.{list_any};
 ghost use Rattle.roman_model.specs.Lists.{below, is_empty};
 ghost use Rattle.roman_model.specs.SystemArena.{beh_next};
 ghost use Rattle.roman_model.specs.Combined.{uses};
 ghost use Rattle.roman_parts.specs.Named.{IsTarget};
 ghost use Rattle.roman_multi.specs.Combining.{requests_in};
-ghost use Rattle.roman_multi.specs.Lists.{used_by};
+ghost use Rattle.roman_multi.specs.Lists.{used_by, ReturnsList};
 
 use crate::parts::Named;
 use roman_model::Request;
@@ -53,7 +53,7 @@ fn push_requests(
 ) -> Result<(), AllocError>
     requires states { env_states ≡ target.now.env_states }
     requires actions { actions ≡ target.now.actions }
-    ensures { IfOk result (λ _. requests.new.items
+    ensures { OnOk result (requests.new.items
         ≡ requests.old.items ++ used_by env_states actions target.now.beh place) }
 {
     for a in 0..actions {
@@ -76,7 +76,7 @@ pub(crate) fn requests(
 ) -> Result<Vec<Request>, AllocError>
     requires few { length targets.now ≤ 4 }
     requires known { All (λ named. IsTarget env.now named.target) targets.now }
-    ensures requests { IfOk result (λ made. made.items ≡ requests_in env.now targets.now) }
+    ensures requests { ReturnsList result (requests_in env.now targets.now) }
 {
     let env_states = env.states().len() as u8;
     let actions = env.actions().len() as u8;

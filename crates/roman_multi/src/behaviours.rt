@@ -1,20 +1,17 @@
 //! Behaviours over the combined actions.
-ghost use Rattle.std.specs.Prelude.{◌≡◌, ◌<◌, ◌++◌, length, map, All, IfOk};
+ghost use Rattle.std.specs.Prelude.{◌≡◌, ◌<◌, ◌++◌, length, IfOk, OnOk};
 ghost use Rattle.std.specs.List.{filter};
 ghost use Rattle.roman_model.specs.Lists.{below};
 ghost use Rattle.roman_model.specs.System.{is_final};
-ghost use Rattle.roman_multi.specs.Combining.{IsBehaviourOf, combined_behaviour};
-ghost use Rattle.roman_multi.specs.Lists.{listed_moves, moves_by, moves_from, moves_in};
-ghost use Rattle.roman_multi.specs.Merges.{IsMember, IsMerge, IsOverMerge, next_of_member};
+ghost use Rattle.roman_multi.specs.Combining.{IsBehaviourOf};
+ghost use Rattle.roman_multi.specs.Lists.{listed_moves, moves_in, ReturnsList};
+ghost use Rattle.roman_multi.specs.Merges.{IsMember, IsMerge, IsOverMerge, next_of_member, member_moves_by, member_moves_from, merge_behaviour, AreOverEnv, merge_catalogue};
 
 use crate::merge::Merge;
 use roman_guard::StateSet;
 use roman_model::Request;
-use roman_parts::{Behaviour, Environment};
+use roman_parts::{Behaviour, Environment, Move};
 use std::alloc::{AllocError, Global};
-
-/// A step (b, G, n, b') by combined action n.
-pub(crate) type Move = (u8, StateSet, u8, u8);
 
 /// A behaviour, the environment that it is over, and the combined actions.
 #[derive(Clone, Copy)]
@@ -27,7 +24,7 @@ pub(crate) struct Member<'a> {
 /// Appends the steps from `b` to the states `next`, by combined action `n` in environment state `e`.
 fn push_moves(steps: &mut Vec<Move>, b: u8, e: u8, n: u8, next: &[u8]) -> Result<(), AllocError>
     requires { e < 64 }
-    ensures { IfOk result (λ _. steps.new.items ≡ steps.old.items ++ moves_in b n e next.now) }
+    ensures { OnOk result (steps.new.items ≡ steps.old.items ++ moves_in b n e next.now) }
 {
     for to in next {
         steps.push((b, StateSet::single(e), n, *to))?;
@@ -41,8 +38,8 @@ fn push_action(steps: &mut Vec<Move>, member: &Member, b: u8, n: u8) -> Result<(
     requires member { IsMember member.now }
     requires state { b < member.now.behaviour.now.beh.states }
     requires action { n < length member.now.requests.now }
-    ensures { IfOk result (λ _. steps.new.items
-        ≡ steps.old.items ++ moves_by member.now.env.now.env.states (next_of_member member.now b n) b n) }
+    ensures { OnOk result (steps.new.items
+        ≡ steps.old.items ++ member_moves_by member.now b n) }
 {
     let a = member.requests[n as usize].action;
     for e in 0..member.env.states().len() as u8 {
@@ -56,8 +53,8 @@ fn push_action(steps: &mut Vec<Move>, member: &Member, b: u8, n: u8) -> Result<(
 fn push_state(steps: &mut Vec<Move>, member: &Member, b: u8) -> Result<(), AllocError>
     requires member { IsMember member.now }
     requires state { b < member.now.behaviour.now.beh.states }
-    ensures { IfOk result (λ _. steps.new.items ≡ steps.old.items
-        ++ moves_from member.now.env.now.env.states (length member.now.requests.now) (next_of_member member.now b) b) }
+    ensures { OnOk result (steps.new.items ≡ steps.old.items
+        ++ member_moves_from member.now b) }
 {
     for n in 0..member.requests.len() as u8 {
         push_action(steps, member, b, n)?;
@@ -69,7 +66,7 @@ fn push_state(steps: &mut Vec<Move>, member: &Member, b: u8) -> Result<(), Alloc
 #[tactic(auto, using(crate::proofs::ListLemmas::flat_map_begun, crate::proofs::KnownLemmas::over_states))]
 fn moves_of(alloc: Global, member: &Member) -> Result<Vec<Move>, AllocError>
     requires { IsMember member.now }
-    ensures { IfOk result (λ steps. steps.items ≡ listed_moves member.now.env.now.env.states
+    ensures { ReturnsList result (listed_moves member.now.env.now.env.states
         (length member.now.requests.now)
         member.now.behaviour.now.beh.states (next_of_member member.now)) }
 {
@@ -84,8 +81,8 @@ fn moves_of(alloc: Global, member: &Member) -> Result<Vec<Move>, AllocError>
 
 #[tactic(auto, using(crate::proofs::KnownLemmas::over_states))]
 fn finals_of(alloc: Global, behaviour: &Behaviour) -> Result<Vec<u8>, AllocError>
-    ensures { IfOk result
-        (λ finals. finals.items ≡ filter (is_final behaviour.now.beh) (below behaviour.now.beh.states)) }
+    ensures { ReturnsList result
+        (filter (is_final behaviour.now.beh) (below behaviour.now.beh.states)) }
 {
     let mut finals = Vec::new(alloc);
     for b in 0..behaviour.states().len() as u8 {
@@ -106,7 +103,7 @@ fn combine_behaviour(
     requires merge { IsMerge merge.now }
     requires of { IsBehaviourOf merge.now.env.now behaviour.now }
     requires over { IsOverMerge merge.now over.now }
-    ensures { IfOk result (λ made. made ≡ combined_behaviour merge.now.env.now merge.now.requests.now behaviour.now) }
+    ensures { IfOk result (λ made. made ≡ merge_behaviour merge.now behaviour.now) }
 {
     let (env, requests) = (merge.env, merge.requests);
     env.known(); // the environment is well formed
@@ -137,10 +134,9 @@ pub(crate) fn combine_catalogue(
     over: &Environment,
 ) -> Result<Vec<Behaviour>, AllocError>
     requires merge { IsMerge merge.now }
-    requires of { All (IsBehaviourOf merge.now.env.now) catalogue.now }
+    requires of { AreOverEnv merge.now catalogue.now }
     requires over { IsOverMerge merge.now over.now }
-    ensures { IfOk result (λ made. made.items
-        ≡ map (combined_behaviour merge.now.env.now merge.now.requests.now) catalogue.now) }
+    ensures { ReturnsList result (merge_catalogue merge.now catalogue.now) }
 {
     let mut made = Vec::with_capacity(alloc, catalogue.len())?;
     for behaviour in catalogue {

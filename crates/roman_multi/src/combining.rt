@@ -1,8 +1,8 @@
 //! The combination of several targets.
-ghost use Rattle.std.specs.Prelude.{◌≡◌, ◌≤◌, length, All, IfOk};
-ghost use Rattle.roman_multi.specs.Combining.{IsBehaviourOf, IsOf, KeepsRules, combined_parts, forbidding, has_bad_count, plain_combined};
+ghost use Rattle.std.specs.Prelude.{◌≡◌, ◌≤◌, length, All};
+ghost use Rattle.roman_multi.specs.Combining.{IsBehaviourOf, IsOf, KeepsRules, combined_parts, forbidding, has_bad_count, Makes};
 ghost use Rattle.roman_multi.specs.Lists.{AreCombinedNames};
-ghost use Rattle.roman_multi.specs.Merges.{IsMerge};
+ghost use Rattle.roman_multi.specs.Merges.{IsMerge, merge_parts, merge_rule, AreOverEnv};
 
 use crate::asking::requests;
 use crate::behaviours::combine_catalogue;
@@ -38,7 +38,7 @@ pub fn combine(
     requires count { (2 ≤ length targets.now) × (length targets.now ≤ 4) }
     requires catalogue { All (IsBehaviourOf env.now) catalogue.now }
     requires targets { All (λ named. IsOf env.now named.target) targets.now }
-    ensures parts { IfOk result (λ made. plain_combined made ≡ combined_parts env.now catalogue.now targets.now) }
+    ensures parts { Makes result (combined_parts env.now catalogue.now targets.now) }
     ensures rules { KeepsRules result (forbidding env.now targets.now) }
 {
     let sizes = sizes_of(alloc, env, targets)?;
@@ -72,10 +72,9 @@ fn combine_parts(
     catalogue: &[Behaviour],
 ) -> Result<Combined, CombineError>
     requires merge { IsMerge merge.now }
-    requires catalogue { All (IsBehaviourOf merge.now.env.now) catalogue.now }
-    ensures parts { IfOk result (λ made. plain_combined made
-        ≡ combined_parts merge.now.env.now catalogue.now merge.now.targets.now) }
-    ensures rules { KeepsRules result (forbidding merge.now.env.now merge.now.targets.now) }
+    requires catalogue { AreOverEnv merge.now catalogue.now }
+    ensures parts { Makes result (merge_parts merge.now catalogue.now) }
+    ensures rules { KeepsRules result (merge_rule merge.now) }
 {
     let names = names_of(alloc, merge)?;
     let (states, actions) = names;

@@ -1,21 +1,18 @@
 //! The environment over the combined actions.
-ghost use Rattle.std.specs.Prelude.{◌≡◌, ◌<◌, ◌≤◌, ◌++◌, length, map, All, IfOk};
+ghost use Rattle.std.specs.Prelude.{◌≡◌, ◌<◌, ◌≤◌, ◌++◌, length, map, IfOk, OnOk};
 ghost use Rattle.roman_model.specs.declared.limits.TheConstants.{MAX_ACTIONS};
-ghost use Rattle.roman_multi.specs.Lists.{listed_triples, triples_by};
+ghost use Rattle.roman_multi.specs.Lists.{listed_triples, triples_by, AreOver, ReturnsList};
 ghost use Rattle.roman_multi.specs.Merges.{IsMerge, combined_environment};
 
 use crate::merge::Merge;
 use roman_model::Request;
-use roman_parts::Environment;
+use roman_parts::{Environment, Triple};
 use roman_read::NameTable;
 use std::alloc::{AllocError, Global};
 
-/// A step (e, n, e') by combined action n.
-type Triple = (u8, u8, u8);
-
 /// Appends the steps from `e` to the states `next`, by combined action `n`.
 fn push_triples(steps: &mut Vec<Triple>, e: u8, n: u8, next: &[u8]) -> Result<(), AllocError>
-    ensures { IfOk result (λ _. steps.new.items ≡ steps.old.items ++ map (λ to. (e, n, to)) next.now) }
+    ensures { OnOk result (steps.new.items ≡ steps.old.items ++ map (λ to. (e, n, to)) next.now) }
 {
     for to in next {
         steps.push((e, n, *to))?;
@@ -32,8 +29,8 @@ fn push_row(
 ) -> Result<(), AllocError>
     requires state { e < env.now.env.states }
     requires few { length requests.now ≤ MAX_ACTIONS }
-    requires actions { All (λ r. r.action < env.now.env.actions) requests.now }
-    ensures { IfOk result (λ _. steps.new.items ≡ steps.old.items ++ triples_by env.now.env requests.now e) }
+    requires actions { AreOver env.now requests.now }
+    ensures { OnOk result (steps.new.items ≡ steps.old.items ++ triples_by env.now.env requests.now e) }
 {
     for n in 0..requests.len() {
         push_triples(steps, e, n as u8, env.next(e, requests[n].action))?;
@@ -48,8 +45,8 @@ fn triples_of(
     requests: &[Request],
 ) -> Result<Vec<Triple>, AllocError>
     requires few { length requests.now ≤ MAX_ACTIONS }
-    requires actions { All (λ r. r.action < env.now.env.actions) requests.now }
-    ensures { IfOk result (λ steps. steps.items ≡ listed_triples env.now.env requests.now) }
+    requires actions { AreOver env.now requests.now }
+    ensures { ReturnsList result (listed_triples env.now.env requests.now) }
 {
     let mut steps = Vec::new(alloc);
     for e in 0..env.states().len() as u8 {

@@ -1,8 +1,9 @@
 //! The numbers of states of the targets.
-ghost use Rattle.std.specs.Prelude.{◌≡◌, All, IfOk};
+ghost use Rattle.std.specs.Prelude.{◌≡◌, All, OnOk};
 ghost use Rattle.roman_model.specs.Combined.{target_sizes};
 ghost use Rattle.roman_parts.specs.Named.{IsTarget};
 ghost use Rattle.roman_multi.specs.Combining.{IsOf, machines};
+ghost use Rattle.roman_multi.specs.Lists.{ReturnsList};
 
 use crate::parts::Named;
 use roman_parts::Environment;
@@ -16,8 +17,8 @@ pub(crate) fn sizes_of(
     targets: &[Named],
 ) -> Result<Vec<u8>, AllocError>
     requires { All (λ named. IsOf env.now named.target) targets.now }
-    ensures sizes { IfOk result (λ sizes. sizes.items ≡ target_sizes (machines targets.now)) }
-    ensures known { IfOk result (λ _. All (λ named. IsTarget env.now named.target) targets.now) }
+    ensures sizes { ReturnsList result (target_sizes (machines targets.now)) }
+    ensures known { OnOk result (All (λ named. IsTarget env.now named.target) targets.now) }
 {
     let mut sizes = Vec::with_capacity(alloc, targets.len())?;
     for i in 0..targets.len() {

@@ -1,8 +1,8 @@
 //! Tables of names.
-ghost use Rattle.std.specs.Prelude.{◌≤◌, length, map, All, IsTrue, IsFalse};
+ghost use Rattle.std.specs.Prelude.{◌≤◌, length, map, All, IsFalse};
 ghost use Rattle.std.specs.List.{list_any};
 ghost use Rattle.roman_multi.specs.Combining.{is_long};
-ghost use Rattle.roman_multi.specs.Lists.{is_word, TablesNames};
+ghost use Rattle.roman_multi.specs.Lists.{TablesNames, IsWord};
 
 use crate::error::CombineError;
 use roman_read::{AddError, Name, NameTable};
@@ -13,7 +13,7 @@ use std::alloc::Global;
 #[tactic(auto, using(crate::proofs::TableLemmas::tables))]
 pub(crate) fn table_of(alloc: Global, words: &[Vec<u8>]) -> Result<NameTable, CombineError>
     requires few { length words.now ≤ 64 }
-    requires words { All (λ word. IsTrue (is_word word.items)) words.now }
+    requires words { All (λ word. IsWord word.items) words.now }
     requires short { IsFalse (list_any is_long (map (λ word. word.items) words.now)) }
     ensures { TablesNames (map (λ word. word.items) words.now) result }
 {

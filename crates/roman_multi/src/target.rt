@@ -1,20 +1,17 @@
 //! The combined target, over the combined actions.
-ghost use Rattle.std.specs.Prelude.{◌≡◌, ◌<◌, ◌≤◌, ◌++◌, length, IfOk};
-ghost use Rattle.std.specs.List.{filter};
-ghost use Rattle.roman_model.specs.Lists.{below, product_of};
+ghost use Rattle.std.specs.Prelude.{◌≡◌, ◌<◌, ◌≤◌, ◌++◌, length, IfOk, OnOk};
 ghost use Rattle.roman_model.specs.Numbers.{states_at};
 ghost use Rattle.roman_model.specs.Several.{are_final};
 ghost use Rattle.roman_model.specs.Combined.{target_sizes, combined_start};
 ghost use Rattle.roman_model.specs.declared.limits.TheConstants.{MAX_STATES};
-ghost use Rattle.roman_multi.specs.Combining.{machines};
-ghost use Rattle.roman_multi.specs.Lists.{flat, listed_moves, moves_by, moves_from, moves_in};
-ghost use Rattle.roman_multi.specs.Merges.{IsMerge, IsOverMerge, next_in, one_target, state_total};
+ghost use Rattle.roman_multi.specs.Combining.{machines, final_states, state_count};
+ghost use Rattle.roman_multi.specs.Lists.{flat, listed_moves, moves_in, ReturnsList};
+ghost use Rattle.roman_multi.specs.Merges.{IsMerge, IsOverMerge, next_in, state_total, merge_moves_by, merge_moves_from, merge_target};
 
-use crate::behaviours::Move;
 use crate::merge::Merge;
 use crate::parts::Named;
 use roman_guard::StateSet;
-use roman_parts::{Environment, Target};
+use roman_parts::{Environment, Move, Target};
 use roman_radix::Shape;
 use roman_read::NameTable;
 use std::alloc::{AllocError, Global};
@@ -26,7 +23,7 @@ fn push_move(steps: &mut Vec<Move>, merge: &Merge, t: u8, n: u8, e: u8) -> Resul
     requires state { t < state_total merge.now }
     requires action { n < length merge.now.requests.now }
     requires env_state { e < merge.now.env.now.env.states }
-    ensures { IfOk result (λ _. steps.new.items ≡ steps.old.items ++ moves_in t n e (next_in merge.now t n e)) }
+    ensures { OnOk result (steps.new.items ≡ steps.old.items ++ moves_in t n e (next_in merge.now t n e)) }
 {
     merge.env.known(); // the environment has at most 64 states
     let (targets, shape) = (merge.targets, merge.shape);
@@ -49,8 +46,8 @@ fn push_action(steps: &mut Vec<Move>, merge: &Merge, t: u8, n: u8) -> Result<(),
     requires merge { IsMerge merge.now }
     requires state { t < state_total merge.now }
     requires action { n < length merge.now.requests.now }
-    ensures { IfOk result (λ _. steps.new.items
-        ≡ steps.old.items ++ moves_by merge.now.env.now.env.states (next_in merge.now t n) t n) }
+    ensures { OnOk result (steps.new.items
+        ≡ steps.old.items ++ merge_moves_by merge.now t n) }
 {
     for e in 0..merge.env.states().len() as u8 {
         push_move(steps, merge, t, n, e)?;
@@ -63,8 +60,8 @@ fn push_action(steps: &mut Vec<Move>, merge: &Merge, t: u8, n: u8) -> Result<(),
 fn push_state(steps: &mut Vec<Move>, merge: &Merge, t: u8) -> Result<(), AllocError>
     requires merge { IsMerge merge.now }
     requires state { t < state_total merge.now }
-    ensures { IfOk result (λ _. steps.new.items ≡ steps.old.items
-        ++ moves_from merge.now.env.now.env.states (length merge.now.requests.now) (next_in merge.now t) t) }
+    ensures { OnOk result (steps.new.items ≡ steps.old.items
+        ++ merge_moves_from merge.now t) }
 {
     for n in 0..merge.requests.len() as u8 {
         push_action(steps, merge, t, n)?;
@@ -76,8 +73,8 @@ fn push_state(steps: &mut Vec<Move>, merge: &Merge, t: u8) -> Result<(), AllocEr
 #[tactic(auto, using(crate::proofs::ListLemmas::flat_map_begun))]
 fn moves_of(alloc: Global, merge: &Merge) -> Result<Vec<Move>, AllocError>
     requires { IsMerge merge.now }
-    ensures { IfOk result (λ steps. steps.items
-        ≡ listed_moves merge.now.env.now.env.states (length merge.now.requests.now) (state_total merge.now)
+    ensures { ReturnsList result
+        (listed_moves merge.now.env.now.env.states (length merge.now.requests.now) (state_total merge.now)
         (next_in merge.now)) }
 {
     let mut steps = Vec::new(alloc);
@@ -90,7 +87,7 @@ fn moves_of(alloc: Global, merge: &Merge) -> Result<Vec<Move>, AllocError>
 /// Returns whether each target is in a final state.
 fn are_final(targets: &[Named], shape: &Shape, t: u8) -> bool
     requires shape { shape.now ≡ flat (target_sizes (machines targets.now)) }
-    requires state { t < product_of (target_sizes (machines targets.now)) }
+    requires state { t < state_count targets.now }
     requires count { length targets.now ≤ 4 }
     ensures { result ≡ are_final (machines targets.now) (states_at (target_sizes (machines targets.now)) t) }
 {
@@ -106,11 +103,9 @@ fn are_final(targets: &[Named], shape: &Shape, t: u8) -> bool
 /// Returns the combined states in which each target is final.
 fn finals_of(alloc: Global, targets: &[Named], shape: &Shape) -> Result<Vec<u8>, AllocError>
     requires shape { shape.now ≡ flat (target_sizes (machines targets.now)) }
-    requires few { product_of (target_sizes (machines targets.now)) ≤ MAX_STATES }
+    requires few { state_count targets.now ≤ MAX_STATES }
     requires count { length targets.now ≤ 4 }
-    ensures { IfOk result (λ finals. finals.items
-        ≡ filter (λ t. are_final (machines targets.now) (states_at (target_sizes (machines targets.now)) t))
-        (below (product_of (target_sizes (machines targets.now))))) }
+    ensures { ReturnsList result (final_states targets.now) }
 {
     let mut finals = Vec::new(alloc);
     for t in 0..shape.pairs() as u8 {
@@ -143,8 +138,7 @@ pub(crate) fn combine_target(
     requires merge { IsMerge merge.now }
     requires states { length states ≡ state_total merge.now }
     requires over { IsOverMerge merge.now over.now }
-    ensures { IfOk result (λ made. made
-        ≡ one_target merge.now.env.now merge.now.requests.now merge.now.targets.now states) }
+    ensures { IfOk result (λ made. made ≡ merge_target merge.now states) }
 {
     merge.env.known(); // the environment is well formed
     let finals = finals_of(alloc, merge.targets, merge.shape)?;

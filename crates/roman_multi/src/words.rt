@@ -1,12 +1,9 @@
 //! The combined names as words, which may be too long for names.
-ghost use Rattle.std.specs.Prelude.{◌≡◌, ◌<◌, ◌++◌, ◌∷◌, length, map, All, IfOk, IsTrue, if◌then◌else◌};
-ghost use Rattle.std.specs.List.{list_any, list_all};
-ghost use Rattle.roman_model.specs.Combined.{target_sizes};
-ghost use Rattle.roman_model.specs.Numbers.{states_at};
-ghost use Rattle.roman_read.specs.Names.{is_name_byte};
-ghost use Rattle.roman_multi.specs.Combining.{is_long, joined, machines, names_at, request_name, request_names, combined_state_names};
-ghost use Rattle.roman_multi.specs.Lists.{is_word};
+ghost use Rattle.std.specs.Prelude.{◌≡◌, ◌<◌, ◌++◌, ◌∷◌, length, map, All, IfOk, if◌then◌else◌, OnOk};
+ghost use Rattle.std.specs.List.{list_any};
+ghost use Rattle.roman_multi.specs.Combining.{is_long, request_name, request_names, combined_state_names, state_name};
 ghost use Rattle.roman_multi.specs.Merges.{IsMerge, state_total};
+ghost use Rattle.roman_multi.specs.Lists.{AreNameBytes, IsWord, ReturnsList};
 
 use crate::merge::Merge;
 use crate::parts::Named;
@@ -17,11 +14,10 @@ use std::alloc::{AllocError, Global};
 
 /// Appends a name, after a dash unless it is the first.
 fn push_name(word: &mut Vec<u8>, name: &Name, first: bool) -> Result<(), AllocError>
-    requires { IsTrue (list_all is_name_byte word.old.items) }
-    ensures word { IfOk result
-        (λ _. word.new.items ≡ word.old.items ++ (if first then name.now else 45 ∷ name.now)) }
-    ensures bytes { IfOk result (λ _. IsTrue (list_all is_name_byte word.new.items)) }
-    ensures some { IfOk result (λ _. 0 < length word.new.items) }
+    requires { AreNameBytes word.old.items }
+    ensures word { OnOk result (word.new.items ≡ word.old.items ++ (if first then name.now else 45 ∷ name.now)) }
+    ensures bytes { OnOk result (AreNameBytes word.new.items) }
+    ensures some { OnOk result (0 < length word.new.items) }
 {
     if !first {
         word.push(b'-')?;
@@ -34,9 +30,8 @@ fn push_name(word: &mut Vec<u8>, name: &Name, first: bool) -> Result<(), AllocEr
 fn state_word(alloc: Global, merge: &Merge, t: u32) -> Result<Vec<u8>, AllocError>
     requires merge { IsMerge merge.now }
     requires state { t < state_total merge.now }
-    ensures word { let targets = merge.now.targets.now in
-        IfOk result (λ word. word.items ≡ joined (names_at targets (states_at (target_sizes (machines targets)) t))) }
-    ensures bytes { IfOk result (λ word. IsTrue (is_word word.items)) }
+    ensures word { ReturnsList result (state_name merge.now.targets.now t) }
+    ensures bytes { IfOk result (λ word. IsWord word.items) }
 {
     let (targets, shape) = (merge.targets, merge.shape);
     let mut word = Vec::new(alloc);
@@ -54,7 +49,7 @@ pub(crate) fn state_words(alloc: Global, merge: &Merge) -> Result<Vec<Vec<u8>>, 
     requires { IsMerge merge.now }
     ensures words { IfOk result (λ words. map (λ word. word.items) words.items
         ≡ combined_state_names merge.now.targets.now) }
-    ensures bytes { IfOk result (λ words. All (λ word. IsTrue (is_word word.items)) words.items) }
+    ensures bytes { IfOk result (λ words. All (λ word. IsWord word.items) words.items) }
 {
     let mut words = Vec::new(alloc);
     for t in 0..merge.shape.pairs() {
@@ -72,8 +67,8 @@ fn request_word(
 ) -> Result<Vec<u8>, AllocError>
     requires target { request.now.target < length targets.now }
     requires action { request.now.action < env.now.env.actions }
-    ensures word { IfOk result (λ word. word.items ≡ request_name env.now.actions targets.now request.now) }
-    ensures bytes { IfOk result (λ word. IsTrue (is_word word.items)) }
+    ensures word { ReturnsList result (request_name env.now.actions targets.now request.now) }
+    ensures bytes { IfOk result (λ word. IsWord word.items) }
 {
     let mut word = Vec::new(alloc);
     let actions = env.actions();
@@ -88,7 +83,7 @@ pub(crate) fn request_words(alloc: Global, merge: &Merge) -> Result<Vec<Vec<u8>>
     requires { IsMerge merge.now }
     ensures words { IfOk result
         (λ words. map (λ word. word.items) words.items ≡ request_names merge.now.env.now merge.now.targets.now) }
-    ensures bytes { IfOk result (λ words. All (λ word. IsTrue (is_word word.items)) words.items) }
+    ensures bytes { IfOk result (λ words. All (λ word. IsWord word.items) words.items) }
 {
     let mut words = Vec::new(alloc);
     for request in merge.requests {

@@ -2,10 +2,15 @@
 use Rattle.std.specs.Prelude.{◌≡◌, ℕ, ◌+◌, ◌*◌, ◌<◌, ◌==◌, ◌&&◌, ◌||◌, Bool, List, slice_index, if◌then◌else◌}
 use Rattle.std.specs.List.{list_any}
 use Rattle.roman_guard.specs.Meaning.{has_state}
+use Rattle.roman_parts.specs.declared.cells.Cells.{Cells}
 
 -- the mask of cell k has state n
 unfoldable pub cell_has : List ℕ → ℕ → ℕ → Bool
 cell_has masks k n = has_state (slice_index masks k) n
+
+-- the number of cells
+abbrev pub cell_count : Cells → ℕ
+cell_count cells = cells.states * cells.env_states * cells.actions
 
 -- n was added to cell k
 pub record PutsIntoCell (old new : List ℕ) (k n : ℕ) : Type 0 where

@@ -1,8 +1,9 @@
 -- Choices: two steps from one state by one action to different states, in an environment state that both guards have.
-use Rattle.std.specs.Prelude.{ℕ, ◌==◌, ◌&&◌, not, List, [], length, Option, None, Some, Result, Ok, Err, find, is_some, option_map, option_and_then, slice_get, slice_index_or, if◌then◌else◌}
+use Rattle.std.specs.Prelude.{◌≡◌, ℕ, ◌==◌, ◌&&◌, not, List, [], length, Option, None, Some, Result, Ok, Err, find, is_some, option_map, option_and_then, slice_get, slice_index_or, if◌then◌else◌}
 use Rattle.roman_model.specs.Lists.{below}
 use Rattle.roman_model.specs.System.{Move, has}
 use Rattle.roman_read.specs.declared.rules.Kind.TheVariants.{Choice}
+use Rattle.roman_parts.specs.Listed.{records}
 use Rattle.roman_parts.specs.declared.error.List.TheVariants.{Steps}
 use Rattle.roman_parts.specs.declared.error.PartError.{PartError}
 use Rattle.roman_parts.specs.declared.error.PartError.TheVariants.{Refused}
@@ -27,6 +28,10 @@ choice_with steps j = first_below (choice_at steps j) j
 -- the first step that forms a choice with an earlier one, with that earlier step and the environment state
 unfoldable pub choice_of : List Move → Option (ℕ × (ℕ × ℕ))
 choice_of steps = first_below (choice_with steps) (length steps)
+
+-- no two of the steps form a choice
+abbrev pub HasNoChoice : List (ℕ × ℕ × ℕ × ℕ) → Type 0
+HasNoChoice steps = choice_of (records steps) ≡ None
 
 -- the steps, if there is no choice, and the refusal of the choice otherwise
 abbrev pub refuse_choice : List (List ℕ) → List Move → Option (ℕ × (ℕ × ℕ)) → Result (List Move) PartError

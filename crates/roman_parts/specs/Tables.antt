@@ -1,5 +1,5 @@
 -- Tables with one row for each cell, which hold the steps of a record.
-use Rattle.std.specs.Prelude.{◌≡◌, ℕ, ◌+◌, ◌*◌, ◌<◌, ◌≤◌, Bool, List, [], length, Some, slice_get, slice_index_or}
+use Rattle.std.specs.Prelude.{◌≡◌, ℕ, ◌+◌, ◌*◌, ◌<◌, ◌≤◌, Bool, List, [], ◌∷◌, length, MatchOption, Option, Some, slice_get, slice_index_or}
 use Rattle.roman_model.specs.System.{Env, Beh, has, IsEnv, IsDeterministic, is_final}
 use Rattle.roman_model.specs.SystemArena.{env_next, env_prev, beh_next, beh_prev}
 use Rattle.roman_model.specs.Made.{beh_from}
@@ -16,6 +16,10 @@ pub record HasRows (env : Env) (to from : List (List ℕ)) : Type 0 where
   pub known : IsEnv env
   pub next : (e a : ℕ) → e < env.states → a < env.actions → slice_get to (e * env.actions + a) ≡ Some (env_next env e a)
   pub prev : (e' a : ℕ) → e' < env.states → a < env.actions → slice_get from (e' * env.actions + a) ≡ Some (env_prev env e' a)
+
+-- the result is the only state of the list, or none if the list is empty
+abbrev pub IsSole : List ℕ → Option ℕ → Type 0
+IsSole states result = MatchOption result (states ≡ []) (λ to. states ≡ to ∷ [])
 
 -- a behaviour with the numbers of states and actions of its environment
 pub record GuardedBeh : Type 0 where

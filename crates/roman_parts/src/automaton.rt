@@ -7,9 +7,10 @@ ghost use Rattle.roman_model.specs.Normal.{normal_beh};
 ghost use Rattle.roman_parts.specs.Listed.{listed_beh, AreMoves};
 ghost use Rattle.roman_parts.specs.Named.{IsOver};
 
-use crate::masks::{Cells, move_masks};
+use crate::cells::Cells;
+use crate::masks::move_masks;
 use crate::rows::Rows;
-use roman_guard::StateSet;
+use crate::steps::Move;
 use roman_model::{MAX_ACTIONS, MAX_STATES};
 use std::alloc::{AllocError, Global};
 use std::marker::Model;
@@ -47,7 +48,7 @@ impl Automaton {
         cells: Cells,
         start: u8,
         finals: &[u8],
-        steps: &[(u8, StateSet, u8, u8)],
+        steps: &[Move],
     ) -> Result<Automaton, AllocError>
         requires states { (0 < cells.states) × (cells.states ≤ MAX_STATES) }
         requires env_states { (0 < cells.env_states) × (cells.env_states ≤ MAX_STATES) }

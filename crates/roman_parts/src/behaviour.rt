@@ -7,9 +7,9 @@ ghost use Rattle.roman_parts.specs.Listed.{listed_beh, AreMoves};
 ghost use Rattle.roman_parts.specs.Named.{IsOver};
 
 use crate::automaton::Automaton;
+use crate::cells::Cells;
 use crate::environment::Environment;
-use crate::masks::Cells;
-use roman_guard::StateSet;
+use crate::steps::Move;
 use roman_model::MAX_STATES;
 use roman_read::{Name, NameTable};
 use std::alloc::{AllocError, Global};
@@ -56,7 +56,7 @@ impl Behaviour {
         states: NameTable,
         start: u8,
         finals: &[u8],
-        steps: &[(u8, StateSet, u8, u8)],
+        steps: &[Move],
         env: &Environment,
     ) -> Result<Behaviour, AllocError>
         requires states { (0 < length states) × (length states ≤ MAX_STATES) }

@@ -7,6 +7,7 @@ ghost use Rattle.roman_parts.specs.Listed.{listed_env, AreTriples};
 
 use crate::masks::triple_masks;
 use crate::rows::Rows;
+use crate::steps::Triple;
 use roman_model::{MAX_ACTIONS, MAX_STATES};
 use roman_read::NameTable;
 use std::alloc::{AllocError, Global};
@@ -67,7 +68,7 @@ impl Environment {
         states: NameTable,
         actions: NameTable,
         start: u8,
-        steps: &[(u8, u8, u8)],
+        steps: &[Triple],
     ) -> Result<Environment, AllocError>
         requires states { (0 < length states) × (length states ≤ MAX_STATES) }
         requires actions { (0 < length actions) × (length actions ≤ MAX_ACTIONS) }

@@ -7,6 +7,7 @@
 
 mod automaton;
 mod behaviour;
+mod cells;
 mod choice;
 mod environment;
 mod error;
@@ -27,4 +28,5 @@ pub use names::place_in;
 pub use parts::{read_behaviour, read_environment, read_name, read_target};
 pub use reading::{counted_member, looked, refused};
 pub use roman_read::{Kind, Name, NameTable};
+pub use steps::{Move, Triple};
 pub use target::Target;

@@ -1,56 +1,12 @@
 //! Masks of states, one for each cell of a table.
-ghost use Rattle.std.specs.Prelude.{◌≡◌, ℕ, ◌+◌, ◌*◌, ◌^◌, ◌<◌, ◌≤◌, length, IfOk, vec_len};
-ghost use Rattle.roman_parts.specs.Cells.{HasMoves, HasTriples, PutsIntoCell, PutsIntoCells, ends};
+ghost use Rattle.std.specs.Prelude.{◌≡◌, ℕ, ◌*◌, ◌<◌, ◌≤◌, length, IfOk, vec_len};
+ghost use Rattle.roman_parts.specs.Cells.{HasMoves, HasTriples, PutsIntoCell, PutsIntoCells, ends, cell_count};
 ghost use Rattle.roman_parts.specs.Listed.{AreTriples, AreMoves};
 
-use crate::environment::Environment;
+use crate::cells::Cells;
+use crate::steps::{Move, Triple};
 use roman_guard::StateSet;
-use roman_model::MAX_STATES;
-use roman_read::NameTable;
 use std::alloc::{AllocError, Global};
-
-/// The numbers of states, environment states and actions for which a table has cells.
-#[derive(Clone, Copy, Debug)]
-pub(crate) struct Cells {
-    pub(crate) states: usize,
-    pub(crate) env_states: usize,
-    pub(crate) actions: usize,
-    ghost small: { (states ≤ 64) × (env_states ≤ 64) × (actions ≤ 32) },
-}
-
-impl Cells {
-    /// Returns the cells of a behaviour with these states over an environment.
-    pub(crate) fn over(states: &NameTable, env: &Environment) -> Cells
-        requires { length states.now ≤ MAX_STATES }
-        ensures states { result.states ≡ length states.now }
-        ensures env_states { result.env_states ≡ env.now.env.states }
-        ensures actions { result.actions ≡ env.now.env.actions }
-    {
-        Cells {
-            states: states.len() as usize,
-            env_states: env.states().len() as usize,
-            actions: env.actions().len() as usize,
-        }
-    }
-
-    pub(crate) fn count(&self) -> usize
-        ensures count { result ≡ self.now.states * self.now.env_states * self.now.actions }
-        ensures small { result ≤ 2 ^ 17 }
-    {
-        self.states * self.env_states * self.actions
-    }
-
-    /// Returns the number of the cell of a state, an environment state and an action.
-    pub(crate) fn at(&self, b: u8, e: u8, a: u8) -> usize
-        requires state { b < self.now.states }
-        requires env_state { e < self.now.env_states }
-        requires action { a < self.now.actions }
-        ensures place { result ≡ (b * self.now.env_states + e) * self.now.actions + a }
-        ensures within { result < self.now.states * self.now.env_states * self.now.actions }
-    {
-        (b as usize * self.env_states + e as usize) * self.actions + a as usize
-    }
-}
 
 /// Returns, for each state and action, the states to which the steps lead, or if `BACK` the states
 /// from which they lead to that state.
@@ -58,7 +14,7 @@ pub(crate) fn triple_masks<const BACK: bool>(
     alloc: Global,
     states: usize,
     actions: usize,
-    steps: &[(u8, u8, u8)],
+    steps: &[Triple],
 ) -> Result<Vec<u64>, AllocError>
     requires states { states ≤ 64 }
     requires actions { actions ≤ 32 }
@@ -79,11 +35,11 @@ pub(crate) fn triple_masks<const BACK: bool>(
 pub(crate) fn move_masks<const BACK: bool>(
     alloc: Global,
     cells: Cells,
-    steps: &[(u8, StateSet, u8, u8)],
+    steps: &[Move],
 ) -> Result<Vec<u64>, AllocError>
     requires { AreMoves cells.states cells.actions steps.now }
-    ensures len { IfOk result (λ masks. vec_len masks ≡ cells.states * cells.env_states * cells.actions) }
-    ensures has { IfOk result (λ masks. HasMoves BACK cells.env_states cells.actions steps.now masks.items) }
+    ensures len { IfOk result (λ made. vec_len made ≡ cell_count cells) }
+    ensures has { IfOk result (λ made. HasMoves BACK cells.env_states cells.actions steps.now made.items) }
 {
     let mut masks = Vec::from_elem(alloc, 0, cells.count())?;
     for &(from, guard, action, to) in steps {
@@ -105,7 +61,7 @@ fn ends<const BACK: bool>(from: u8, to: u8) -> (u8, u8)
 /// Adds the state `n` to the cells of the state `at`, the action and each environment state of the
 /// guard.
 fn mark_move(masks: &mut [u64], cells: Cells, at: u8, guard: StateSet, action: u8, n: u8)
-    requires len { length masks.old ≡ cells.states * cells.env_states * cells.actions }
+    requires len { length masks.old ≡ cell_count cells }
     requires at { at < cells.states }
     requires action { action < cells.actions }
     requires small { n < 64 }

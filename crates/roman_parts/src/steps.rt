@@ -1,7 +1,7 @@
 //! Readers of transitions.
-ghost use Rattle.std.specs.Prelude.{◌^◌, ◌<◌, ◌≤◌, All, IfOk, length, map};
+ghost use Rattle.std.specs.Prelude.{◌^◌, ◌<◌, ◌≤◌, IfOk, length, map};
 ghost use Rattle.serde_json.specs.View.{view};
-ghost use Rattle.roman_parts.specs.Listed.{triple_of, move_of, AreTriples, AreMoves};
+ghost use Rattle.roman_parts.specs.Listed.{triple_of, move_of, AreTriples, AreMoves, AreGuarded};
 ghost use Rattle.roman_parts.specs.Reading.{Gives};
 ghost use Rattle.roman_parts.specs.Steps.{triple_item, triples_of, move_item, moves_of};
 
@@ -15,6 +15,13 @@ use roman_read::{Kind, NameTable};
 use serde_json::Value;
 use std::alloc::Global;
 
+/// A transition of an environment: from a state, by an action, to a state.
+pub type Triple = (u8, u8, u8);
+
+/// A transition of a behaviour: from a state, in the environment states of a guard, by an action, to a
+/// state.
+pub type Move = (u8, StateSet, u8, u8);
+
 /// Reads the transitions of an environment.
 #[tactic(auto, using(crate::proofs::StepLemmas::step_lists), unfolding(crate::specs::Steps::triples_of))]
 pub(crate) fn read_triples(
@@ -22,7 +29,7 @@ pub(crate) fn read_triples(
     states: &NameTable,
     actions: &NameTable,
     v: &Value,
-) -> Result<Vec<(u8, u8, u8)>, PartError>
+) -> Result<Vec<Triple>, PartError>
     requires states { length states.now ≤ 64 }
     requires actions { length actions.now ≤ 64 }
     ensures steps { Gives (λ steps. map triple_of steps.items) result
@@ -45,7 +52,7 @@ fn read_triple(
     actions: &NameTable,
     v: &Value,
     index: u32,
-) -> Result<(u8, u8, u8), PartError>
+) -> Result<Triple, PartError>
     requires states { length states.now ≤ 64 }
     requires actions { length actions.now ≤ 64 }
     ensures step { Gives triple_of result (triple_item states.now actions.now index (view v.now)) }
@@ -70,7 +77,7 @@ pub(crate) fn read_moves(
     actions: &NameTable,
     states: &NameTable,
     v: &Value,
-) -> Result<Vec<(u8, StateSet, u8, u8)>, PartError>
+) -> Result<Vec<Move>, PartError>
     requires env_states { length env_states.now ≤ 64 }
     requires actions { length actions.now ≤ 64 }
     requires states { length states.now ≤ 64 }
@@ -79,7 +86,7 @@ pub(crate) fn read_moves(
     ensures within { IfOk result
         (λ steps. AreMoves (length states.now) (length actions.now) steps.items) }
     ensures guards { IfOk result
-        (λ steps. All (λ m. m.1 < 2 ^ length env_states.now) steps.items) }
+        (λ steps. AreGuarded env_states.now steps.items) }
     ensures few { IfOk result (λ steps. length steps.items ≤ MAX_STEPS) }
 {
     let items = counted_member(v, "steps", List::Steps, 0, MAX_STEPS)?;
@@ -99,7 +106,7 @@ fn read_move(
     states: &NameTable,
     v: &Value,
     index: u32,
-) -> Result<(u8, StateSet, u8, u8), PartError>
+) -> Result<Move, PartError>
     requires env_states { length env_states.now ≤ 64 }
     requires actions { length actions.now ≤ 64 }
     requires states { length states.now ≤ 64 }

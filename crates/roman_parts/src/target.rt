@@ -1,16 +1,17 @@
 //! Targets.
-ghost use Rattle.std.specs.Prelude.{◌≡◌, ◌<◌, ◌≤◌, ◌&&◌, ◌∷◌, [], not, length, All, IfOk, IfSome, MatchOption};
+ghost use Rattle.std.specs.Prelude.{◌≡◌, ◌<◌, ◌≤◌, ◌&&◌, ◌∷◌, [], not, length, All, IfOk, IfSome};
 ghost use Rattle.roman_model.specs.Lists.{is_empty};
 ghost use Rattle.roman_model.specs.System.{IsDeterministic, is_final};
 ghost use Rattle.roman_model.specs.SystemArena.{env_next, beh_next, beh_prev};
 ghost use Rattle.roman_model.specs.Normal.{normal_beh};
 ghost use Rattle.roman_parts.specs.Listed.{listed_beh, AreMoves};
 ghost use Rattle.roman_parts.specs.Named.{IsOver};
+ghost use Rattle.roman_parts.specs.Tables.{IsSole};
 
 use crate::automaton::Automaton;
+use crate::cells::Cells;
 use crate::environment::Environment;
-use crate::masks::Cells;
-use roman_guard::StateSet;
+use crate::steps::Move;
 use roman_model::MAX_STATES;
 use roman_read::NameTable;
 use std::alloc::{AllocError, Global};
@@ -63,7 +64,7 @@ impl Target {
         states: NameTable,
         start: u8,
         finals: &[u8],
-        steps: &[(u8, StateSet, u8, u8)],
+        steps: &[Move],
         env: &Environment,
     ) -> Result<Target, AllocError>
         requires states { (0 < length states) × (length states ≤ MAX_STATES) }
@@ -140,8 +141,7 @@ impl Target {
         requires state { t < self.now.beh.states }
         requires env_state { e < self.now.env_states }
         requires action { a < self.now.actions }
-        ensures next { MatchOption result
-            (beh_next self.now.beh t e a ≡ []) (λ to. beh_next self.now.beh t e a ≡ to ∷ []) }
+        ensures next { IsSole (beh_next self.now.beh t e a) result }
         ensures below { IfSome result (λ to. to < self.now.beh.states) }
     {
         self.known(); // the target is deterministic

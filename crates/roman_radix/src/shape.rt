@@ -3,8 +3,8 @@
 ghost use Rattle.std.specs.Prelude.{◌≡◌, ℕ, ◌+◌, ◌*◌, ◌/◌, ◌%◌, ◌^◌, ◌<◌, ◌≤◌, ◌↔◌, length, take, slice_index, IsTrue, IsSome, IfSome, All};
 ghost use Rattle.roman_model.specs.Lists.{product_of};
 ghost use Rattle.roman_model.specs.Numbers.{IsPairOf, grown_sizes, sizes_without, count, number, pair_at};
-ghost use Rattle.roman_model.specs.Change.{grown, without};
-ghost use Rattle.roman_radix.specs.Radix.{IsSizes, stride_of, env_stride_of, target_stride_of, with_part, moved, AreSizes};
+ghost use Rattle.roman_model.specs.Change.{without};
+ghost use Rattle.roman_radix.specs.Radix.{IsSizes, stride_of, env_stride_of, target_stride_of, with_part, AreSizes, sizes_from, grown_to, moved_to, IsPartState};
 ghost use Rattle.roman_radix.specs.Places.{padded, strides_of};
 ghost use Rattle.roman_radix.specs.Rows.{low_of, lanes_of, row_sizes};
 
@@ -63,8 +63,8 @@ impl Shape {
         requires env { 0 < env }
         requires sizes { All (λ size. 0 < size) sizes.now }
         requires few { length sizes.now ≤ MAX_SERVICES }
-        ensures fits { IsSome result ↔ (count (record { target = target; env = env; seats = sizes.now }) ≤ cap) }
-        ensures shape { IfSome result (λ shape. shape ≡ record { target = target; env = env; seats = sizes.now }) }
+        ensures fits { IsSome result ↔ (count (sizes_from target env sizes.now) ≤ cap) }
+        ensures shape { IfSome result (λ shape. shape ≡ sizes_from target env sizes.now) }
     {
         if !is_within(target, env, sizes, cap) {
             return None;
@@ -228,7 +228,7 @@ impl Shape {
         requires pair { p < count self.now }
         requires component { k < length self.now.seats }
         ensures value { result ≡ slice_index (pair_at self.now p).bs k }
-        ensures below { result < slice_index self.now.seats k }
+        ensures below { IsPartState self.now k result }
     {
         let (stride, size) = self.part(k as usize);
         let (_, state) = divided(p / stride, size);
@@ -241,7 +241,7 @@ impl Shape {
     pub fn with_part(&self, p: u32, k: u8, b: u8) -> u32
         requires pair { p < count self.now }
         requires component { k < length self.now.seats }
-        requires state { b < slice_index self.now.seats k }
+        requires state { IsPartState self.now k b }
         ensures number { result ≡ number self.now (with_part (pair_at self.now p) k b) }
         ensures below { result < count self.now }
     {
@@ -258,8 +258,8 @@ impl Shape {
         requires t { t < self.now.target }
         requires e { e < self.now.env }
         requires component { k < length self.now.seats }
-        requires state { b < slice_index self.now.seats k }
-        ensures number { result ≡ number self.now (moved (pair_at self.now p) t e k b) }
+        requires state { IsPartState self.now k b }
+        ensures number { result ≡ moved_to self.now p t e k b }
         ensures below { result < count self.now }
     {
         self.known();
@@ -304,7 +304,7 @@ impl Shape {
         requires state { b < size }
         requires few { length self.now.seats < MAX_SERVICES }
         requires fits { count (grown_sizes self.now size) < 2 ^ 32 }
-        ensures number { result ≡ number (grown_sizes self.now size) (grown (pair_at self.now p) b) }
+        ensures number { result ≡ grown_to self.now p size b }
         ensures below { result < count (grown_sizes self.now size) }
     {
         p * u32::from(size) + u32::from(b)
@@ -356,7 +356,7 @@ fn is_within(target: u8, env: u8, sizes: &[u8], cap: u32) -> bool
     requires target { 0 < target }
     requires env { 0 < env }
     requires sizes { All (λ size. 0 < size) sizes.now }
-    ensures { IsTrue result ↔ (count (record { target = target; env = env; seats = sizes.now }) ≤ cap) }
+    ensures { IsTrue result ↔ (count (sizes_from target env sizes.now) ≤ cap) }
 {
     let cap = u64::from(cap);
     let mut pairs = u64::from(target) * u64::from(env);
@@ -428,8 +428,8 @@ fn without_place(mut sizes: [u8; PLACES], k: usize) -> [u8; PLACES]
 fn lay_out(target: u8, env: u8, components: u8, sizes: [u8; PLACES]) -> Shape
     requires few { components ≤ MAX_SERVICES }
     requires padded { sizes ≡ padded (take components sizes) }
-    requires sizes { IsSizes (record { target = target; env = env; seats = take components sizes }) }
-    ensures { result ≡ record { target = target; env = env; seats = take components sizes } }
+    requires sizes { IsSizes (sizes_from target env (take components sizes)) }
+    ensures { result ≡ sizes_from target env (take components sizes) }
 {
     let (strides, env_stride) = strides_over(components, &sizes);
     let target_stride = u32::from(env) * env_stride;
