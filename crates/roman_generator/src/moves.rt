@@ -1,10 +1,10 @@
 //! Moves from one pair to the next.
 ghost use Rattle.std.specs.Prelude.{◌≡◌, ◌<◌, IsTrue, IfSome, IfNone};
-ghost use Rattle.roman_model.specs.System.{Pair, IsPair, TStep, has};
-ghost use Rattle.roman_model.specs.SystemArena.{is_allowed, is_ready};
+ghost use Rattle.roman_model.specs.System.{Pair, IsPair, has};
+ghost use Rattle.roman_model.specs.SystemArena.{is_allowed};
 ghost use Rattle.roman_joint.specs.NamedSys.{system_of};
-ghost use Rattle.roman_generator.specs.Moves.{CanMove, MayBeObserved, Becomes, IsBefore};
-ghost use Rattle.roman_joint.specs.Pairs.{joint_pairs, joint_pair, joint_seat};
+ghost use Rattle.roman_generator.specs.Moves.{IsAllowedAt, CanMoveAt, GoesTo, IsReadySeat, MayBeObserved, MovesAt, IsBefore, pair_with};
+ghost use Rattle.roman_joint.specs.Pairs.{joint_pairs};
 
 use crate::observation::Observation;
 use roman_joint::Joint;
@@ -15,10 +15,10 @@ use roman_joint::Joint;
 /// `None` exactly if no step of the system leads there. Allocates no memory.
 pub fn next_pair(joint: &Joint, p: u32, a: u8, k: u8, b2: u8, e2: u8) -> Option<u32>
     requires pair { p < joint_pairs joint.now }
-    requires allowed { IsTrue (is_allowed (system_of joint.now) (joint_pair joint.now p) a) }
-    requires ready { IsTrue (is_ready (joint_seat joint.now k)) }
-    ensures moves { IfSome result (Becomes (system_of joint.now) (joint_pair joint.now p) a k b2 e2) }
-    ensures none { IfNone result (CanMove (system_of joint.now) (joint_pair joint.now p) a k b2 e2 → ⊥) }
+    requires allowed { IsAllowedAt joint.now p a }
+    requires ready { IsReadySeat joint.now k }
+    ensures moves { IfSome result (MovesAt joint.now p a k b2 e2) }
+    ensures none { IfNone result (¬ CanMoveAt joint.now p a k b2 e2) }
 {
     joint.known(); // the system is well formed
     let shape = joint.shape();
@@ -47,15 +47,11 @@ pub fn next_target(
     states: &[u8],
     observation: Observation,
 ) -> Option<u8>
-    requires pair { IsPair (system_of joint.now) (record { t = t; e = e; bs = states.now }) }
-    requires allowed { IsTrue (is_allowed (system_of joint.now)
-        (record { t = t; e = e; bs = states.now }) observation.action) }
-    requires ready { IsTrue (is_ready (joint_seat joint.now observation.seat)) }
-    ensures moves { let p : Pair = record { t = t; e = e; bs = states.now } in
-        IfSome result (λ to. TStep (system_of joint.now) t e observation.action to observation.env
-        × MayBeObserved (system_of joint.now) p observation) }
-    ensures none { let p : Pair = record { t = t; e = e; bs = states.now } in
-        IfNone result (MayBeObserved (system_of joint.now) p observation → ⊥) }
+    requires pair { IsPair (system_of joint.now) (pair_with t e states.now) }
+    requires allowed { IsTrue (is_allowed (system_of joint.now) (pair_with t e states.now) observation.action) }
+    requires ready { IsReadySeat joint.now observation.seat }
+    ensures moves { IfSome result (GoesTo (system_of joint.now) (pair_with t e states.now) observation) }
+    ensures none { IfNone result (¬ MayBeObserved (system_of joint.now) (pair_with t e states.now) observation) }
 {
     target_after(joint, t, e, states[observation.seat as usize], observation)
 }
@@ -64,12 +60,11 @@ pub fn next_target(
 // state `t`, the environment in state `e`, and the service in state `b`.
 fn target_after(joint: &Joint, t: u8, e: u8, b: u8, observation: Observation) -> Option<u8>
     requires before { (p : Pair) × IsBefore (system_of joint.now) t e b observation p }
-    requires ready { IsTrue (is_ready (joint_seat joint.now observation.seat)) }
+    requires ready { IsReadySeat joint.now observation.seat }
     ensures moves { (p : Pair) → IsBefore (system_of joint.now) t e b observation p →
-        IfSome result (λ to. TStep (system_of joint.now) p.t p.e observation.action to observation.env
-        × MayBeObserved (system_of joint.now) p observation) }
+        IfSome result (GoesTo (system_of joint.now) p observation) }
     ensures none { (p : Pair) → IsBefore (system_of joint.now) t e b observation p →
-        IfNone result (MayBeObserved (system_of joint.now) p observation → ⊥) }
+        IfNone result (¬ MayBeObserved (system_of joint.now) p observation) }
 {
     joint.known(); // behaviours and the target are over the environment
     if !holds(

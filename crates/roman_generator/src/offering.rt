@@ -1,12 +1,8 @@
 //! The services that can be offered.
-ghost use Rattle.std.specs.Prelude.{◌≢◌, ◌<◌, IsTrue};
-ghost use Rattle.roman_model.specs.System.{has};
-ghost use Rattle.roman_model.specs.SystemArena.{is_allowed};
-ghost use Rattle.roman_model.specs.Offers.{is_related, offers};
-ghost use Rattle.roman_rules.specs.Bits.{HasBits};
-ghost use Rattle.roman_joint.specs.NamedSys.{system_of};
+ghost use Rattle.std.specs.Prelude.{◌≢◌, ◌<◌};
 ghost use Rattle.roman_relation.specs.Greatest.{IsUpToDate};
-ghost use Rattle.roman_joint.specs.Pairs.{joint_pairs, joint_pair};
+ghost use Rattle.roman_generator.specs.Moves.{AreOffers, IsAllowedAt, IsRelatedAt};
+ghost use Rattle.roman_joint.specs.Pairs.{joint_pairs};
 
 use roman_relation::Relation;
 use roman_rules::SeatSet;
@@ -21,9 +17,9 @@ use roman_rules::SeatSet;
 pub fn offers(relation: &Relation, p: u32, a: u8) -> SeatSet
     requires complete { IsUpToDate relation.now }
     requires pair { p < joint_pairs relation.now.joint }
-    requires related { IsTrue (is_related (system_of relation.now.joint) (joint_pair relation.now.joint p)) }
-    requires allowed { IsTrue (is_allowed (system_of relation.now.joint) (joint_pair relation.now.joint p) a) }
-    ensures offers { HasBits result (has (offers (system_of relation.now.joint) (joint_pair relation.now.joint p) a)) }
+    requires related { IsRelatedAt relation.now.joint p }
+    requires allowed { IsAllowedAt relation.now.joint p a }
+    ensures offers { AreOffers relation.now.joint p a result }
     ensures some { result ≢ 0 }
 {
     relation.joint.known(); // the system is well formed
