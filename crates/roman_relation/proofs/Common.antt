@@ -41,5 +41,5 @@ pub use Rattle.roman_rules.specs.Bits.{bit_of}
 pub use Rattle.roman_rules.specs.Numbered.{IsNumbered}
 pub use Rattle.roman_relation.specs.Greatest.{HasCaps, HasCompleteList}
 pub use Rattle.roman_relation.specs.Rounds.{AddsLost, AddsTo, AreLostRows, AreNoted, AreUnlisted, AwaitsRound, IsJudged, falls, has_band, moves_noted, moves_to}
-pub use Rattle.roman_relation.specs.Settled.{AreLevels, Begins, HoldsLost, IsSettled, RisesByDepth, SettlesOn}
+pub use Rattle.roman_relation.specs.Settled.{AddsUnfine, AreLevels, Begins, HoldsLost, IsFineOrListed, IsSettled, RisesByDepth, SettlesOn}
 pub use Rattle.roman_relation.specs.Shaped.{IsShaped}

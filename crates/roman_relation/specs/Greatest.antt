@@ -6,7 +6,7 @@ use Rattle.roman_joint.specs.Pairs.{arena_of}
 use Rattle.roman_joint.specs.Rows.{lanes_in}
 use Rattle.roman_order.specs.Board.{Board}
 use Rattle.roman_relation.specs.Shaped.{IsShaped}
-use Rattle.roman_relation.specs.Settled.{AreLevels}
+use Rattle.roman_relation.specs.Settled.{AreLevels, RisesByDepth}
 use Rattle.roman_relation.specs.declared.relation.Relation.{Relation}
 
 -- the number of pairs in a row of the joint
@@ -33,6 +33,30 @@ pub record IsRelation (joint : NamedSys) (order : Board) : Type 0 where
   pub complete : HasCompleteList joint order
   pub shaped : IsShapedFor joint order
   pub caps : HasCaps joint order
+
+-- the relation's list is complete
+abbrev pub HasAllLost : Relation → Type 0
+HasAllLost relation = HasCompleteList relation.joint relation.order
+
+-- no entry of the relation's order waits
+abbrev pub IsIdle : Relation → Type 0
+IsIdle relation = relation.order.waiting ≡ []
+
+-- the relation's order is shaped for its joint
+abbrev pub HasShape : Relation → Type 0
+HasShape relation = IsShapedFor relation.joint relation.order
+
+-- the relation's order has room for every system within the joint's limit
+abbrev pub HasCapacity : Relation → Type 0
+HasCapacity relation = HasCaps relation.joint relation.order
+
+-- the entries of the relation's list rise by depth
+abbrev pub RisesInDepth : Relation → Type 0
+RisesInDepth relation = RisesByDepth (arena_of relation.joint) relation.order.list
+
+-- the relation's levels are those of its list
+abbrev pub HasLevels : Relation → Type 0
+HasLevels relation = AreLevels (arena_of relation.joint) relation.order.levels relation.order.list
 
 -- the joint and the order are those of a relation between two changes
 abbrev pub IsUpToDate : Relation → Type 0

@@ -7,12 +7,16 @@ use Rattle.roman_model.specs.declared.reason.Reason.{Reason}
 use Rattle.roman_model.specs.declared.reason.Reason.TheVariants.{Act}
 use Rattle.roman_lanes.specs.Rows.{is_on, HasLanes, AreRows}
 use Rattle.roman_order.specs.Board.{Board, is_marked}
-use Rattle.roman_relation.specs.Settled.{Begins}
-use Rattle.roman_relation.specs.Shaped.{IsShaped}
+use Rattle.roman_relation.specs.Settled.{Begins, IsFineOrListed}
+use Rattle.roman_relation.specs.Shaped.{InRows, IsShaped}
 
 -- the words have, row by row, the bits of the pairs that aren't listed
 abbrev pub AreUnlisted : Arena ℕ → ℕ → List (Entry ℕ) → List ℕ → Type 0
 AreUnlisted A lanes L words = AreRows lanes (λ p. not (is_listed A L p)) words
+
+-- the kept words have, row by row, the bits of the pairs that aren't gone
+abbrev pub HasKept : ℕ → (ℕ → Bool) → Board → Type 0
+HasKept lanes gone board = AreRows lanes (λ p. not (gone p)) board.before
 
 -- between two rounds: each pair that isn't listed meets clause 2, and each allowed action is served there unless its
 -- band is marked; the kept words are those of the list
@@ -20,7 +24,7 @@ pub record AwaitsRound (A : Arena ℕ) (lanes band : ℕ) (board : Board) : Type
   pub shaped : IsShaped A lanes board
   pub valid : IsOrder A board.list
   pub kept : AreUnlisted A lanes board.list board.before
-  pub fine : (p : ℕ) → p < length A.nodes → IsFalse (is_listed A board.list p) → IsTrue (A.fine p)
+  pub fine : (p : ℕ) → p < length A.nodes → IsFineOrListed A board.list p
   pub served : (p a : ℕ) → p < length A.nodes → is_marked board (p / lanes / band) ≡ false → IsFalse (is_listed A board.list p) →
       IsFalse (is_justified A (is_listed A board.list) p (Act a))
 
@@ -49,7 +53,7 @@ pub record AddsTo (A : Arena ℕ) (gone : ℕ → Bool) (May : ℕ → Type 0) (
 -- the second list is the first one with the pairs of some rows from row x on at which the reason holds with these nodes gone
 pub record AddsLost (A : Arena ℕ) (gone : ℕ → Bool) (lanes x rows : ℕ) (reason : Reason) (L M : List (Entry ℕ)) : Type 0 where
   pub adds : AddsTo A gone (λ p. IsTrue (is_justified A gone p reason) × (x ≤ p / lanes) × (p / lanes < x + rows)) L M
-  pub left : (i lane : ℕ) → i < rows → lane < lanes → IsFalse (is_listed A M ((x + i) * lanes + lane)) → IsFalse (is_justified A gone ((x + i) * lanes + lane) reason)
+  pub left : InRows lanes x rows (λ p. IsFalse (is_listed A M p) → IsFalse (is_justified A gone p reason))
 
 -- some entry is that of a pair of the band y
 abbrev pub has_band : ℕ → ℕ → List (Entry ℕ) → ℕ → Bool

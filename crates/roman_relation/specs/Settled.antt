@@ -1,5 +1,5 @@
 -- Removal lists that extend others, until nothing can be added.
-use Rattle.std.specs.Prelude.{◌≡◌, ℕ, ◌-◌, ◌<◌, ◌≤◌, List, length, take, slice_get, slice_index, Some, IsTrue, IsFalse}
+use Rattle.std.specs.Prelude.{◌≡◌, ℕ, ◌-◌, ◌<◌, ◌≤◌, ◌⊎◌, List, length, take, slice_get, slice_index, Some, IsTrue, IsFalse}
 use Rattle.roman_model.specs.Lists.{IsIn}
 use Rattle.roman_model.specs.Arena.{Arena, Entry, is_listed, is_justified, loses, IsOrder}
 use Rattle.roman_model.specs.declared.reason.Reason.{Reason}
@@ -36,3 +36,11 @@ pub record AreLevels (A : Arena ℕ) (levels : List ℕ) (L : List (Entry ℕ)) 
   pub within : (n : ℕ) → n < length levels → slice_index levels n ≤ length L
   pub each : (n : ℕ) → n < length levels → HoldsLost A n (take (slice_index levels n) L)
   pub last : slice_index levels (length levels - 1) ≡ length L
+
+-- the node p meets clause 2, or it is listed
+abbrev pub IsFineOrListed : Arena ℕ → List (Entry ℕ) → ℕ → Type 0
+IsFineOrListed A L p = IsFalse (is_listed A L p) → IsTrue (A.fine p)
+
+-- each node that the second list adds to the first doesn't meet clause 2
+abbrev pub AddsUnfine : Arena ℕ → List (Entry ℕ) → List (Entry ℕ) → Type 0
+AddsUnfine A L M = (p : ℕ) → IsTrue (is_listed A M p) → IsTrue (is_listed A L p) ⊎ IsFalse (A.fine p)

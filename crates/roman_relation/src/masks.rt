@@ -2,9 +2,9 @@
 ghost use Rattle.std.specs.Prelude.{◌≡◌, ◌+◌, ◌*◌, ◌<◌, ◌≤◌, length, sum_by};
 ghost use Rattle.roman_model.specs.Lists.{below};
 ghost use Rattle.roman_model.specs.System.{has};
-ghost use Rattle.roman_model.specs.Arena.{is_listed, mask as mask_of, choices};
+ghost use Rattle.roman_model.specs.Arena.{is_listed, choices};
 ghost use Rattle.roman_rules.specs.Bits.{HasBits};
-ghost use Rattle.roman_relation.specs.Shaped.{IsShaped};
+ghost use Rattle.roman_relation.specs.Shaped.{IsShaped, mask_by};
 
 use roman_order::Order;
 use roman_rules::{Rules, SeatSet};
@@ -15,7 +15,7 @@ pub(crate) fn mask<J: Rules>(joint: &J, order: &Order, p: u32, a: u8) -> SeatSet
     requires shaped { IsShaped (J.arena joint.now) (J.lanes joint.now) order.now }
     requires pair { p < length (J.arena joint.now).nodes }
     requires action { a < (J.arena joint.now).actions }
-    ensures { let A = J.arena joint.now in HasBits result (has (mask_of A (is_listed A order.now.list) p a)) }
+    ensures { HasBits result (has (mask_by (J.arena joint.now) order.now.list p a)) }
 {
     joint.known(); // no two pairs have the same number
     order.known(); // a row has 1 to 64 lanes
@@ -43,11 +43,8 @@ pub(crate) fn choices<J: Rules>(joint: &J, order: &Order) -> u64
 fn band_choices<J: Rules>(joint: &J, order: &Order, y: u32) -> u64
     requires shaped { IsShaped (J.arena joint.now) (J.lanes joint.now) order.now }
     requires band { y * J.band joint.now < order.now.rows }
-    ensures counted { let A = J.arena joint.now in
-        result
-        ≡ sum_by (λ a. sum_by (λ i. sum_by
-        (λ lane. length (mask_of A (is_listed A order.now.list)
-        ((y * J.band joint.now + i) * J.lanes joint.now + lane) a))
+    ensures counted { let A = J.arena joint.now in result ≡ sum_by (λ a. sum_by (λ i. sum_by
+        (λ lane. length (mask_by A order.now.list ((y * J.band joint.now + i) * J.lanes joint.now + lane) a))
         (below (J.lanes joint.now))) (below (J.band joint.now))) (below A.actions) }
     ensures bound { result ≤ 4194304 }
 {

@@ -1,18 +1,19 @@
 //! The greatest relation of a joint.
-ghost use Rattle.std.specs.Prelude.{◌≡◌, ◌+◌, ◌<◌, ◌≤◌, ◌↔◌, not, []};
+ghost use Rattle.std.specs.Prelude.{◌≡◌, ◌+◌, ◌<◌, ◌≤◌, ◌↔◌, not};
 ghost use Rattle.std.specs.Prelude.{length, drop, filter, IsTrue, IfOk};
 ghost use Rattle.roman_model.specs.System.{has};
 ghost use Rattle.roman_model.specs.SystemArena.{pairs};
-ghost use Rattle.roman_model.specs.Arena.{is_listed, mask, IsOrder, fall};
+ghost use Rattle.roman_model.specs.Arena.{IsOrder, fall};
 ghost use Rattle.roman_model.specs.Composition.{Great};
-ghost use Rattle.roman_model.specs.Numbers.{sizes_of, count, pair_at};
+ghost use Rattle.roman_model.specs.Numbers.{sizes_of, pair_at};
 ghost use Rattle.roman_model.specs.Offers.{is_related, choice_count};
 ghost use Rattle.roman_rules.specs.Bits.{HasBits};
 ghost use Rattle.roman_joint.specs.NamedSys.{system_of};
 ghost use Rattle.roman_joint.specs.Parts.{HasSameParts};
 ghost use Rattle.roman_order.specs.Board.{has_entry};
-ghost use Rattle.roman_relation.specs.Settled.{Begins, RisesByDepth, AreLevels};
-ghost use Rattle.roman_relation.specs.Greatest.{HasCaps, HasCompleteList, IsShapedFor};
+ghost use Rattle.roman_relation.specs.Shaped.{mask_by};
+ghost use Rattle.roman_relation.specs.Settled.{Begins};
+ghost use Rattle.roman_relation.specs.Greatest.{HasAllLost, HasCapacity, HasLevels, HasShape, IsIdle, RisesInDepth};
 ghost use Rattle.roman_joint.specs.Pairs.{joint_pairs, joint_actions, arena_of};
 
 use crate::masks;
@@ -53,12 +54,11 @@ impl Relation {
         steps: &mut Steps<L>,
     ) -> Result<Relation, AllocError>
         ensures joint { IfOk result (λ relation. relation.joint ≡ joint) }
-        ensures complete { IfOk result (λ relation. HasCompleteList relation.joint relation.order) }
-        ensures rises { IfOk result (λ relation. RisesByDepth (arena_of relation.joint) relation.order.list) }
-        ensures levels { IfOk result (λ relation. AreLevels
-            (arena_of relation.joint) relation.order.levels relation.order.list) }
-        ensures shaped { IfOk result (λ relation. IsShapedFor relation.joint relation.order) }
-        ensures caps { IfOk result (λ relation. HasCaps relation.joint relation.order) }
+        ensures complete { IfOk result HasAllLost }
+        ensures rises { IfOk result RisesInDepth }
+        ensures levels { IfOk result HasLevels }
+        ensures shaped { IfOk result HasShape }
+        ensures caps { IfOk result HasCapacity }
     {
         joint.known(); // there is at least one action
         let places = joint.limit() / u32::from(Rules::actions(&joint));
@@ -85,9 +85,9 @@ impl Relation {
     /// `from`, not their unused room. Allocates no memory.
     pub fn reset_to(&mut self, from: &Relation)
         requires parts { HasSameParts self.old.joint from.now.joint }
-        requires caps { HasCaps self.old.joint self.old.order }
-        requires caps_from { HasCaps from.now.joint from.now.order }
-        requires idle { from.now.order.waiting ≡ [] }
+        requires caps { HasCapacity self.old }
+        requires caps_from { HasCapacity from.now }
+        requires idle { IsIdle from.now }
         ensures { self.new ≡ from.now }
     {
         self.joint.reset_seats_to(&from.joint);
@@ -97,11 +97,10 @@ impl Relation {
     /// Returns whether the pair `p` is related, by looking up one bit.
     #[tactic(auto, using(crate::proofs::Relating::counted))]
     pub fn related(&self, p: u32) -> bool
-        requires shaped { IsShapedFor self.now.joint self.now.order }
+        requires shaped { HasShape self.now }
         requires pair { p < joint_pairs self.now.joint }
         ensures listed { result ≡ not (has_entry self.now.order.list p) }
-        ensures great { let s = system_of self.now.joint in
-            HasCompleteList self.now.joint self.now.order
+        ensures great { let s = system_of self.now.joint in HasAllLost self.now
             → (IsTrue result ↔ Great s (pair_at (sizes_of s) p)) }
     {
         self.joint.known(); // the system is well formed
@@ -112,10 +111,9 @@ impl Relation {
     /// Returns the number of related pairs, without a pass over them.
     #[tactic(auto, using(crate::proofs::Relating::counted))]
     pub fn count(&self) -> u32
-        requires { IsShapedFor self.now.joint self.now.order }
+        requires { HasShape self.now }
         ensures listed { result + length self.now.order.list ≡ joint_pairs self.now.joint }
-        ensures related { let s = system_of self.now.joint in
-            HasCompleteList self.now.joint self.now.order
+        ensures related { let s = system_of self.now.joint in HasAllLost self.now
             → result ≡ length (filter (is_related s) (pairs s)) }
     {
         self.joint.known(); // the system is well formed
@@ -127,11 +125,10 @@ impl Relation {
     /// the target doesn't allow the action. Computes it anew, since masks aren't stored.
     #[tactic(auto, using(crate::proofs::Relating::counted))]
     pub fn mask(&self, p: u32, a: u8) -> SeatSet
-        requires shaped { IsShapedFor self.now.joint self.now.order }
+        requires shaped { HasShape self.now }
         requires pair { p < joint_pairs self.now.joint }
         requires action { a < joint_actions self.now.joint }
-        ensures { let A = arena_of self.now.joint in
-            HasBits result (has (mask A (is_listed A self.now.order.list) p a)) }
+        ensures { HasBits result (has (mask_by (arena_of self.now.joint) self.now.order.list p a)) }
     {
         masks::mask(&self.joint, &self.order, p, a)
     }
@@ -153,8 +150,8 @@ impl Relation {
     /// Returns the number of services in the masks of all pairs and actions together, whether the
     /// pairs are related or not. Computes the masks anew, band by band.
     pub fn choices(&self) -> u64
-        requires { IsShapedFor self.now.joint self.now.order }
-        ensures { HasCompleteList self.now.joint self.now.order → result ≡ choice_count (system_of self.now.joint) }
+        requires { HasShape self.now }
+        ensures { HasAllLost self.now → result ≡ choice_count (system_of self.now.joint) }
     {
         self.joint.known(); // the system is well formed
         self.order.known(); // listed pairs are pairs of the system
@@ -165,14 +162,14 @@ impl Relation {
     /// [`build`](Relation::build) does, but without allocating memory. The entries then rise by
     /// depth, level by level. Requires an order without waiting entries.
     pub fn afresh<L: Ledger>(&mut self, steps: &mut Steps<L>)
-        requires caps { HasCaps self.old.joint self.old.order }
-        requires idle { self.old.order.waiting ≡ [] }
+        requires caps { HasCapacity self.old }
+        requires idle { IsIdle self.old }
         ensures joint { self.new.joint ≡ self.old.joint }
-        ensures complete { HasCompleteList self.new.joint self.new.order }
-        ensures rises { RisesByDepth (arena_of self.new.joint) self.new.order.list }
-        ensures levels { AreLevels (arena_of self.new.joint) self.new.order.levels self.new.order.list }
-        ensures shaped { IsShapedFor self.new.joint self.new.order }
-        ensures caps { HasCaps self.new.joint self.new.order }
+        ensures complete { HasAllLost self.new }
+        ensures rises { RisesInDepth self.new }
+        ensures levels { HasLevels self.new }
+        ensures shaped { HasShape self.new }
+        ensures caps { HasCapacity self.new }
     {
         self.joint.known(); // the system is well formed and within its limit
         let lanes = self.joint.lanes();
@@ -184,10 +181,10 @@ impl Relation {
     /// by those before it, and an order without waiting entries. Counts at most as many steps as
     /// delegations lead to the added pairs. Levels are kept only if the list was empty.
     pub fn settle<L: Ledger>(&mut self, steps: &mut Steps<L>)
-        requires shaped { IsShapedFor self.old.joint self.old.order }
+        requires shaped { HasShape self.old }
         requires valid { IsOrder (arena_of self.old.joint) self.old.order.list }
-        requires idle { self.old.order.waiting ≡ [] }
-        ensures complete { HasCompleteList self.new.joint self.new.order }
+        requires idle { IsIdle self.old }
+        ensures complete { HasAllLost self.new }
         ensures begins { Begins self.old.order.list self.new.order.list }
         ensures rest { self.new ≡ record self.old {
           order = record self.old.order {

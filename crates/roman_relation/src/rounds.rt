@@ -1,5 +1,5 @@
 //! Plays the rounds that make a removal list complete.
-ghost use Rattle.std.specs.Prelude.{◌≡◌, ◌≢◌, ℕ, suc, true, false, ◌+◌, ◌/◌, ◌<◌, ◌≤◌, ◌⊎◌, IsTrue, [], ◌∷◌, ◌++◌};
+ghost use Rattle.std.specs.Prelude.{◌≡◌, ◌≢◌, ℕ, suc, true, false, ◌+◌, ◌/◌, ◌≤◌, ◌⊎◌, IsTrue, [], ◌∷◌, ◌++◌};
 ghost use Rattle.std.specs.Prelude.{length, drop};
 ghost use Rattle.roman_model.specs.Arena.{is_listed, IsOrder, fall};
 ghost use Rattle.roman_order.specs.Board.{is_marked};
@@ -48,8 +48,7 @@ pub fn play_round<J: Rules, L: Ledger>(joint: &J, order: &mut Order, steps: &mut
     requires ready { AwaitsRound (J.arena joint.now) (J.lanes joint.now) (J.band joint.now) order.old }
     ensures ready { AwaitsRound (J.arena joint.now) (J.lanes joint.now) (J.band joint.now) order.new }
     ensures goes_on { SettlesOn (J.arena joint.now) order.old order.new }
-    ensures only { let A = J.arena joint.now in
-        (p : ℕ) → IsTrue (is_listed A order.new.list p) →
+    ensures only { let A = J.arena joint.now in (p : ℕ) → IsTrue (is_listed A order.new.list p) →
         IsTrue (is_listed A order.old.list p)
         ⊎ (is_marked order.old (p / J.lanes joint.now / J.band joint.now) ≡ true) }
     ensures lost { (n : ℕ) → HoldsLost (J.arena joint.now) n order.old.list →
@@ -57,8 +56,7 @@ pub fn play_round<J: Rules, L: Ledger>(joint: &J, order: &mut Order, steps: &mut
     ensures settled { length order.new.list ≡ length order.old.list → IsSettled (J.arena joint.now) order.new.list }
     ensures cost { steps.new ≤ steps.old + fall (J.arena joint.now) (drop (length order.old.list) order.new.list) }
     ensures steps { steps.new ≡ steps.old + moves_to_all (J.arena joint.now) (J.lanes joint.now) (J.band joint.now)
-        (J.mid joint.now) order.old.rows
-        (drop (length order.old.list) order.new.list) }
+        (J.mid joint.now) order.old.rows (drop (length order.old.list) order.new.list) }
 {
     joint.known(); // outcomes are pairs of the system
     order.known(); // each row has a kept word, listed pairs are pairs of the system

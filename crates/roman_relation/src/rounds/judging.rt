@@ -1,9 +1,9 @@
 //! Judges the marked bands against the kept words.
-ghost use Rattle.std.specs.Prelude.{◌≡◌, ℕ, ◌+◌, ◌*◌, ◌/◌, ◌<◌, ◌≤◌, Bool, true, false, not, IsTrue, length};
-ghost use Rattle.roman_lanes.specs.Rows.{is_on, AreRows};
-ghost use Rattle.roman_order.specs.Board.{is_marked};
+ghost use Rattle.std.specs.Prelude.{◌≡◌, ℕ, ◌+◌, ◌*◌, ◌/◌, ◌<◌, ◌≤◌, Bool, true, false, IsTrue, length};
+ghost use Rattle.roman_lanes.specs.Rows.{is_on};
+ghost use Rattle.roman_order.specs.Board.{ChangesOnlyList, is_marked};
 ghost use Rattle.roman_relation.specs.Shaped.{IsShaped};
-ghost use Rattle.roman_relation.specs.Rounds.{AddsLost, AddsTo, IsJudged, falls};
+ghost use Rattle.roman_relation.specs.Rounds.{AddsLost, AddsTo, HasKept, IsJudged, falls};
 
 use super::listing::{are_listed, band_start, push_lost};
 use roman_model::Reason;
@@ -13,17 +13,15 @@ use roman_rules::{BAND, Rules, copy_rows};
 /// Judges the marked bands, and clears their marks.
 pub(crate) fn judge_marked<J: Rules>(joint: &J, order: &mut Order)
     requires shaped { IsShaped (J.arena joint.now) (J.lanes joint.now) order.old }
-    requires kept { (gone : ℕ → Bool) × AreRows (J.lanes joint.now) (λ p. not (gone p)) order.old.before }
+    requires kept { (gone : ℕ → Bool) × HasKept (J.lanes joint.now) gone order.old }
     ensures rest { order.new ≡ record order.old { list = order.new.list; marks = order.new.marks } }
     ensures unmarked { let A = J.arena joint.now in
         (p : ℕ) → p < length A.nodes → is_marked order.new (p / J.lanes joint.now / J.band joint.now) ≡ false }
-    ensures adds { let A = J.arena joint.now in
-        (gone : ℕ → Bool) → AreRows (J.lanes joint.now) (λ p. not (gone p)) order.old.before →
+    ensures adds { let A = J.arena joint.now in (gone : ℕ → Bool) → HasKept (J.lanes joint.now) gone order.old →
         AddsTo A gone (λ p. IsTrue (falls A gone p) ×
         (is_marked order.old (p / J.lanes joint.now / J.band joint.now) ≡ true)) order.old.list order.new.list }
     ensures done { let A = J.arena joint.now in
-        (gone : ℕ → Bool) (p : ℕ) → AreRows (J.lanes joint.now) (λ p. not (gone p)) order.old.before →
-        p < length A.nodes →
+        (gone : ℕ → Bool) (p : ℕ) → HasKept (J.lanes joint.now) gone order.old → p < length A.nodes →
         is_marked order.old (p / J.lanes joint.now / J.band joint.now) ≡ true → IsJudged A gone order.new.list p }
 {
     joint.known(); // a row has 1 to 64 lanes, a band has 1 to 64 rows
@@ -40,17 +38,16 @@ pub(crate) fn judge_marked<J: Rules>(joint: &J, order: &mut Order)
 #[tactic(auto, using(crate::proofs::Bands::band_begins))]
 fn judge<J: Rules>(joint: &J, order: &mut Order, y: u32, is_band: bool, left: &mut [u64])
     requires shaped { IsShaped (J.arena joint.now) (J.lanes joint.now) order.old }
-    requires kept { (gone : ℕ → Bool) × AreRows (J.lanes joint.now) (λ p. not (gone p)) order.old.before }
+    requires kept { (gone : ℕ → Bool) × HasKept (J.lanes joint.now) gone order.old }
     requires left { length left.old ≡ J.band joint.now }
     requires band { is_band ≡ true → y * J.band joint.now + J.band joint.now ≤ order.old.rows }
-    ensures rest { order.new ≡ record order.old { list = order.new.list } }
+    ensures rest { ChangesOnlyList order.old order.new }
     ensures long { length left.new ≡ length left.old }
-    ensures adds { let A = J.arena joint.now in
-        (gone : ℕ → Bool) → AreRows (J.lanes joint.now) (λ p. not (gone p)) order.old.before →
+    ensures adds { let A = J.arena joint.now in (gone : ℕ → Bool) → HasKept (J.lanes joint.now) gone order.old →
         AddsTo A gone (λ p. IsTrue (falls A gone p) × (p / J.lanes joint.now / J.band joint.now ≡ y))
         order.old.list order.new.list }
     ensures done { let A = J.arena joint.now in
-        (gone : ℕ → Bool) (i lane : ℕ) → AreRows (J.lanes joint.now) (λ p. not (gone p)) order.old.before →
+        (gone : ℕ → Bool) (i lane : ℕ) → HasKept (J.lanes joint.now) gone order.old →
         is_band ≡ true → i < J.band joint.now → lane < J.lanes joint.now →
         IsJudged A gone order.new.list ((y * J.band joint.now + i) * J.lanes joint.now + lane) }
 {
@@ -85,16 +82,15 @@ fn is_in(actions: u32, a: u8) -> bool
 /// Judges the band whose first row is `x` for the action `a`: lists the pairs that it loses for it.
 fn judge_on<J: Rules>(joint: &J, order: &mut Order, row: &J::Row, x: u32, a: u8, left: &mut [u64])
     requires shaped { IsShaped (J.arena joint.now) (J.lanes joint.now) order.old }
-    requires kept { (gone : ℕ → Bool) × AreRows (J.lanes joint.now) (λ p. not (gone p)) order.old.before }
+    requires kept { (gone : ℕ → Bool) × HasKept (J.lanes joint.now) gone order.old }
     requires first { (y : ℕ) × (x ≡ y * J.band joint.now) }
     requires band { x + J.band joint.now ≤ order.old.rows }
     requires row { J.is_row joint.now x row.now }
     requires action { a < (J.arena joint.now).actions }
     requires left { length left.old ≡ J.band joint.now }
-    ensures rest { order.new ≡ record order.old { list = order.new.list } }
+    ensures rest { ChangesOnlyList order.old order.new }
     ensures long { length left.new ≡ length left.old }
-    ensures adds { let A = J.arena joint.now in
-        (gone : ℕ → Bool) → AreRows (J.lanes joint.now) (λ p. not (gone p)) order.old.before →
+    ensures adds { let A = J.arena joint.now in (gone : ℕ → Bool) → HasKept (J.lanes joint.now) gone order.old →
         AddsLost A gone (J.lanes joint.now) x (J.band joint.now) (Reason.Act a) order.old.list order.new.list }
 {
     joint.known(); // a row has 1 to 64 lanes, a pair's number fits in 32 bits

@@ -1,7 +1,8 @@
 //! Lists pairs of a band.
-ghost use Rattle.std.specs.Prelude.{◌≡◌, ℕ, ◌+◌, ◌*◌, ◌<◌, ◌≤◌, true, Bool, IsTrue, length};
+ghost use Rattle.std.specs.Prelude.{◌≡◌, ℕ, ◌+◌, ◌*◌, ◌≤◌, true, Bool, IsTrue, length};
 ghost use Rattle.roman_model.specs.Arena.{is_listed};
-ghost use Rattle.roman_relation.specs.Shaped.{IsShaped};
+ghost use Rattle.roman_order.specs.Board.{ChangesOnlyList};
+ghost use Rattle.roman_relation.specs.Shaped.{InRows, IsShaped};
 ghost use Rattle.roman_relation.specs.Rounds.{AddsLost, AreLostRows};
 
 use roman_model::Reason;
@@ -23,9 +24,8 @@ pub(crate) fn band_start<J: Rules>(joint: &J, order: &Order, y: u32) -> u32
 pub(crate) fn are_listed<J: Rules>(joint: &J, order: &Order, x: u32) -> bool
     requires shaped { IsShaped (J.arena joint.now) (J.lanes joint.now) order.now }
     requires band { x + J.band joint.now ≤ order.now.rows }
-    ensures { let A = J.arena joint.now in
-        result ≡ true → (i lane : ℕ) → i < J.band joint.now → lane < J.lanes joint.now →
-        IsTrue (is_listed A order.now.list ((x + i) * J.lanes joint.now + lane)) }
+    ensures { result ≡ true → InRows (J.lanes joint.now) x (J.band joint.now)
+        (λ p. IsTrue (is_listed (J.arena joint.now) order.now.list p)) }
 {
     joint.known(); // no two pairs have the same number
     order.known(); // listed pairs are pairs of the system
@@ -49,7 +49,7 @@ pub(crate) fn push_lost<J: Rules>(
     ensures adds { let A = J.arena joint.now in
         (gone : ℕ → Bool) → AreLostRows A gone order.old.list (J.lanes joint.now) x (J.band joint.now) reason lost.now →
         AddsLost A gone (J.lanes joint.now) x (J.band joint.now) reason order.old.list order.new.list }
-    ensures rest { order.new ≡ record order.old { list = order.new.list } }
+    ensures rest { ChangesOnlyList order.old order.new }
 {
     if are_clear(lost) {
         return;

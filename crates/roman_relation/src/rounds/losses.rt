@@ -81,8 +81,7 @@ fn mark_batch<J: Rules, L: Ledger>(joint: &J, order: &mut Order, batch: Batch, s
         (start : ℕ) (noted more : ℕ → Bool) → AreNoted A lanes band start noted order.old →
         ((lane : ℕ) → is_on batch.lanes lane ≡ true →
         IsFalse (is_listed A (take start order.old.list) (batch.row * lanes + lane))) →
-        more y ≡ true → ((z : ℕ) → z ≢ y → more z ≡ noted z) →
-        AreNoted A lanes band start more order.new
+        more y ≡ true → ((z : ℕ) → z ≢ y → more z ≡ noted z) → AreNoted A lanes band start more order.new
         × (steps.new + moves_noted A lanes band (J.mid joint.now) order.old.rows noted
         ≡ steps.old + moves_noted A lanes band (J.mid joint.now) order.old.rows more) }
 {

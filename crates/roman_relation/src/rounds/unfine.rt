@@ -1,9 +1,8 @@
 //! Lists the pairs that don't meet clause 2.
-ghost use Rattle.std.specs.Prelude.{◌≡◌, ℕ, ◌+◌, ◌*◌, ◌<◌, ◌≤◌, ◌⊎◌};
-ghost use Rattle.std.specs.Prelude.{length, IsTrue, IsFalse};
-ghost use Rattle.roman_model.specs.Arena.{is_listed, IsOrder};
-ghost use Rattle.roman_relation.specs.Shaped.{IsShaped};
-ghost use Rattle.roman_relation.specs.Settled.{SettlesOn};
+ghost use Rattle.std.specs.Prelude.{◌≡◌, ℕ, ◌+◌, ◌*◌, ◌<◌, ◌≤◌, length};
+ghost use Rattle.roman_model.specs.Arena.{IsOrder};
+ghost use Rattle.roman_relation.specs.Shaped.{InRows, IsShaped};
+ghost use Rattle.roman_relation.specs.Settled.{AddsUnfine, IsFineOrListed, SettlesOn};
 
 use super::listing::{are_listed, band_start, push_lost};
 use roman_model::Reason;
@@ -15,11 +14,8 @@ pub(crate) fn list_unfine<J: Rules>(joint: &J, order: &mut Order)
     requires shaped { IsShaped (J.arena joint.now) (J.lanes joint.now) order.old }
     requires valid { IsOrder (J.arena joint.now) order.old.list }
     ensures goes_on { SettlesOn (J.arena joint.now) order.old order.new }
-    ensures fine { let A = J.arena joint.now in
-        (p : ℕ) → p < length A.nodes → IsFalse (is_listed A order.new.list p) → IsTrue (A.fine p) }
-    ensures because { let A = J.arena joint.now in
-        (p : ℕ) → IsTrue (is_listed A order.new.list p) →
-        IsTrue (is_listed A order.old.list p) ⊎ IsFalse (A.fine p) }
+    ensures fine { let A = J.arena joint.now in (p : ℕ) → p < length A.nodes → IsFineOrListed A order.new.list p }
+    ensures because { AddsUnfine (J.arena joint.now) order.old.list order.new.list }
 {
     joint.known(); // a row has 1 to 64 lanes
     let mut words = [0; BAND];
@@ -41,12 +37,8 @@ fn list_unfine_band<J: Rules>(joint: &J, order: &mut Order, y: u32, resting: u64
     ensures goes_on { SettlesOn (J.arena joint.now) order.old order.new }
     ensures long { length left.new ≡ length left.old }
     ensures fine { let A = J.arena joint.now in
-        (i lane : ℕ) → i < J.band joint.now → lane < J.lanes joint.now →
-        let p = (y * J.band joint.now + i) * J.lanes joint.now + lane in
-        IsFalse (is_listed A order.new.list p) → IsTrue (A.fine p) }
-    ensures because { let A = J.arena joint.now in
-        (p : ℕ) → IsTrue (is_listed A order.new.list p) →
-        IsTrue (is_listed A order.old.list p) ⊎ IsFalse (A.fine p) }
+        InRows (J.lanes joint.now) (y * J.band joint.now) (J.band joint.now) (IsFineOrListed A order.new.list) }
+    ensures because { AddsUnfine (J.arena joint.now) order.old.list order.new.list }
 {
     joint.known(); // a row has 1 to 64 lanes, each pair has its own number, of 32 bits
     let x = band_start(joint, order, y);
