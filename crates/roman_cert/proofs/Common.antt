@@ -45,5 +45,6 @@ pub use Rattle.roman_text.proofs.CallerLemmas.{Gathers-second, IsFilling, Puts-a
 pub use Rattle.roman_text.specs.Lines.{with_newline}
 pub use Rattle.roman_text.specs.Pages.{Gathered, Gathers}
 pub use Rattle.roman_cert.specs.Certified.{IsTemplate, WroteGreatest}
+pub use Rattle.roman_cert.specs.Slices.{IsOrderOf}
 unfoldable pub use Rattle.roman_cert.specs.Slices.{answers_text, entry_text, lost_text, marked_text}
 pub use Rattle.roman_cert.specs.declared.template.Template.{Template}

@@ -1,8 +1,8 @@
 //! Finds the answers that defeat the seats: the entries on which an entry depends.
-ghost use Rattle.std.specs.Prelude.{◌≡◌, ◌<◌, length, take, slice_get, Some, IfSome};
-ghost use Rattle.roman_model.specs.Arena.{IsOrder};
+ghost use Rattle.std.specs.Prelude.{◌≡◌, ◌<◌, length, take, Some, IfSome};
 ghost use Rattle.roman_model.specs.Explanation.{answer as answer_of};
-ghost use Rattle.roman_order.specs.Board.{pairs_of, as_entry, has_entry};
+ghost use Rattle.roman_order.specs.Board.{pairs_of, has_entry};
+ghost use Rattle.roman_cert.specs.Slices.{HasAct, IsOrderOf};
 
 use roman_io::Steps;
 use roman_model::Reason;
@@ -35,9 +35,8 @@ pub(crate) fn answer<J: Rules, L: Ledger>(
     k: u8,
     steps: &mut Steps<L>,
 ) -> Option<u32>
-    requires shaped { pairs_of order.now ≡ length (J.arena joint.now).nodes }
-    requires valid { IsOrder (J.arena joint.now) order.now.list }
-    requires entry { slice_get order.now.list i ≡ Some (as_entry (p, Reason.Act a)) }
+    requires order { IsOrderOf (J.arena joint.now) order.now }
+    requires entry { HasAct order.now.list i p a }
     requires seat { k < (J.arena joint.now).seats }
     ensures answer { result ≡ answer_of (J.arena joint.now) order.now.list p a k }
     ensures within { IfSome result (λ q. q < length (J.arena joint.now).nodes) }

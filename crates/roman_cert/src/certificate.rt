@@ -1,15 +1,12 @@
 //! Writes the certificate of a relation.
-ghost use Rattle.std.specs.Prelude.{◌≡◌, ◌++◌, [], ◌∷◌, IfSome, OnOk};
-ghost use Rattle.roman_io.specs.Faults.{HasCause};
-ghost use Rattle.roman_io.specs.Sink.{Puts};
+ghost use Rattle.std.specs.Prelude.{◌≡◌, [], ◌∷◌, IfSome, OnOk};
+ghost use Rattle.roman_io.specs.SinkCalls.{WritesTo, FailsWith};
 ghost use Rattle.roman_text.specs.Lines.{with_newline};
-ghost use Rattle.roman_text.specs.Pages.{Gathers};
+ghost use Rattle.roman_text.specs.Pages.{Pushes};
 ghost use Rattle.roman_model.specs.Lines.{text_of_lines};
 ghost use Rattle.roman_model.specs.Certificate.{head_line, count_line, reason_text, entry_line, cert_text};
-ghost use Rattle.roman_model.specs.Numbers.{sizes_of, count, IsCompleteList};
-ghost use Rattle.roman_joint.specs.NamedSys.{system_of};
 ghost use Rattle.roman_order.specs.Board.{as_entry};
-ghost use Rattle.roman_cert.specs.Certified.{IsTemplate, WroteGreatest};
+ghost use Rattle.roman_cert.specs.Certified.{HasFullList, IsTemplate, WritesGreatest, cert_of};
 
 use crate::lines::finish;
 use crate::template::Template;
@@ -24,13 +21,10 @@ use roman_text::{Page, Piece};
 /// certificate of a complete list. Fails only if the sink's count of faults rose; a prefix of the
 /// certificate was then written.
 pub fn write_order<O: Sink>(relation: &Relation, out: &mut O) -> Result<(), Failed>
-    ensures text { let s = system_of relation.now.joint in
-        Puts (O.written out.old) (O.written out.new)
-        (cert_text (count (sizes_of s)) relation.now.order.list) result }
-    ensures accepted { let s = system_of relation.now.joint in
-        IsCompleteList s relation.now.order.list
-        → OnOk result (WroteGreatest s (O.written out.old) (O.written out.new)) }
-    ensures cause { HasCause (O.faults out.old) (O.faults out.new) result }
+    ensures text { WritesTo O.Sink out.old out.new (cert_of relation.now) result }
+    ensures accepted { HasFullList relation.now →
+        OnOk result (WritesGreatest O.Sink out.old out.new relation.now) }
+    ensures cause { FailsWith O.Sink out.old out.new result }
 {
     relation.joint.known(); // the system is well formed and within its limit
     write_list(relation.joint.pairs(), &relation.order, out)
@@ -38,8 +32,8 @@ pub fn write_order<O: Sink>(relation: &Relation, out: &mut O) -> Result<(), Fail
 
 /// Writes the certificate of a list, in a system of `pairs` pairs.
 pub(crate) fn write_list<O: Sink>(pairs: u32, order: &Order, out: &mut O) -> Result<(), Failed>
-    ensures text { Puts (O.written out.old) (O.written out.new) (cert_text pairs order.now.list) result }
-    ensures cause { HasCause (O.faults out.old) (O.faults out.new) result }
+    ensures text { WritesTo O.Sink out.old out.new (cert_text pairs order.now.list) result }
+    ensures cause { FailsWith O.Sink out.old out.new result }
 {
     let mut page = Page::new();
     let head = head_piece(pairs);
@@ -90,9 +84,9 @@ fn push_entry<O: Sink>(
 ) -> Result<(), Failed>
     requires template { IsTemplate template.old }
     ensures template { IsTemplate template.new }
-    ensures gathers { Gathers (O.written out.old) (O.written out.new) page.new
-        (page.old ++ with_newline (entry_line (as_entry (pair, reason)))) result }
-    ensures cause { HasCause (O.faults out.old) (O.faults out.new) result }
+    ensures gathers { Pushes O.Sink out.old out.new page.old page.new
+        (with_newline (entry_line (as_entry (pair, reason)))) result }
+    ensures cause { FailsWith O.Sink out.old out.new result }
 {
     let Some(letter) = letter_of(reason) else {
         return push_parts(pair, reason, page, out);
@@ -112,9 +106,9 @@ fn push_parts<O: Sink>(
     page: &mut Page,
     out: &mut O,
 ) -> Result<(), Failed>
-    ensures gathers { Gathers (O.written out.old) (O.written out.new) page.new
-        (page.old ++ with_newline (entry_line (as_entry (pair, reason)))) result }
-    ensures cause { HasCause (O.faults out.old) (O.faults out.new) result }
+    ensures gathers { Pushes O.Sink out.old out.new page.old page.new
+        (with_newline (entry_line (as_entry (pair, reason)))) result }
+    ensures cause { FailsWith O.Sink out.old out.new result }
 {
     let Reason::Act(action) = reason else {
         return page.push_number_then(pair, b" f\n", out);

@@ -1,16 +1,15 @@
 //! Writes the lines of an explanation, and the last line of each text.
-ghost use Rattle.std.specs.Prelude.{◌≡◌, ◌<◌, ◌≤◌, ◌++◌, [], ◌∷◌, length, codes, slice_index};
+ghost use Rattle.std.specs.Prelude.{◌≡◌, ◌<◌, ◌≤◌, ◌++◌, [], ◌∷◌, length, codes};
 ghost use Rattle.std.specs.Option.{ForSome, option_map};
-ghost use Rattle.roman_io.specs.Faults.{HasCause};
-ghost use Rattle.roman_io.specs.Sink.{Puts};
-ghost use Rattle.roman_text.specs.Pages.{Gathers};
-ghost use Rattle.roman_model.specs.Explanation.{name_at, seat_names, reason_name, answer_line};
+ghost use Rattle.roman_io.specs.SinkCalls.{WritesTo, FailsWith};
+ghost use Rattle.roman_model.specs.Explanation.{name_at, reason_name, answer_line};
 ghost use Rattle.roman_model.specs.Lines.{text_of_lines};
 ghost use Rattle.roman_joint.specs.Names.{names_in};
 ghost use Rattle.roman_rules.specs.Probes.{IsReasonOf};
 ghost use Rattle.roman_order.specs.Board.{as_entry};
-ghost use Rattle.roman_cert.specs.Slices.{lost_text};
+ghost use Rattle.roman_cert.specs.Slices.{IsEntryOf, env_text, lost_text, state_text};
 ghost use Rattle.roman_joint.specs.Pairs.{joint_pairs, joint_pair, arena_of};
+ghost use Rattle.roman_text.specs.Pages.{Pushes};
 
 use roman_io::{Failed, Sink};
 use roman_joint::Joint;
@@ -20,8 +19,8 @@ use roman_text::{Page, Piece};
 /// Pushes the last line, and writes the bytes of the page.
 #[tactic(auto, using(crate::proofs::Rests::finished))]
 pub(crate) fn finish<O: Sink>(page: &mut Page, out: &mut O) -> Result<(), Failed>
-    ensures text { Puts (O.written out.old) (O.written out.new) (page.old ++ codes "end\n") result }
-    ensures cause { HasCause (O.faults out.old) (O.faults out.new) result }
+    ensures text { WritesTo O.Sink out.old out.new (page.old ++ codes "end\n") result }
+    ensures cause { FailsWith O.Sink out.old out.new result }
 {
     page.push(b"end\n", out)?;
     page.flush(out)
@@ -35,11 +34,10 @@ pub(crate) fn push_lost<O: Sink>(
     page: &mut Page,
     out: &mut O,
 ) -> Result<(), Failed>
-    requires pair { p < joint_pairs joint.now }
-    requires reason { IsReasonOf (arena_of joint.now) reason }
-    ensures gathers { Gathers (O.written out.old) (O.written out.new) page.new
-        (page.old ++ lost_text joint.now (as_entry (p, reason))) result }
-    ensures cause { HasCause (O.faults out.old) (O.faults out.new) result }
+    requires { IsEntryOf joint.now p reason }
+    ensures gathers { Pushes O.Sink out.old out.new page.old page.new
+        (lost_text joint.now (as_entry (p, reason))) result }
+    ensures cause { FailsWith O.Sink out.old out.new result }
 {
     let parts = parts_piece(joint, p);
     page.push(parts.bytes(), out)?;
@@ -56,7 +54,7 @@ fn parts_piece(joint: &Joint, p: u32) -> Piece
     requires { p < joint_pairs joint.now }
     ensures { let q = joint_pair joint.now p in
         result ≡ codes "lost " ++ name_at (names_in joint.now).target q.t
-        ++ 32 ∷ name_at (names_in joint.now).env q.e }
+        ++ 32 ∷ env_text joint.now q }
 {
     let target = joint.target_name(joint.shape().target_of(p));
     let env = joint.env_name(joint.shape().env_of(p));
@@ -69,7 +67,7 @@ fn state_piece(joint: &Joint, p: u32, k: u8) -> Piece
     requires pair { p < joint_pairs joint.now }
     requires seat { k < length joint.now.seats }
     ensures { let q = joint_pair joint.now p in
-        result ≡ 32 ∷ name_at (seat_names (names_in joint.now) k).states (slice_index q.bs k) }
+        result ≡ 32 ∷ state_text joint.now k q }
 {
     let state = joint.shape().part_of(p, k);
     Piece::new().text(b" ").name(joint.state_name(k, state))
@@ -106,10 +104,9 @@ fn add_states(text: Piece, joint: &Joint, k: u8, q: u32) -> Piece
     requires room { length text ≤ 34 }
     requires seat { k < length joint.now.seats }
     requires pair { q < joint_pairs joint.now }
-    ensures { let answered = joint_pair joint.now q in
-        result ≡ text ++ codes " may answer "
-        ++ name_at (seat_names (names_in joint.now) k).states (slice_index answered.bs k)
-        ++ codes " " ++ name_at (names_in joint.now).env answered.e ++ 10 ∷ [] }
+    ensures { let to = joint_pair joint.now q in
+        result ≡ text ++ codes " may answer " ++ state_text joint.now k to
+        ++ codes " " ++ env_text joint.now to ++ 10 ∷ [] }
 {
     let state = joint.state_name(k, joint.shape().part_of(q, k));
     let env = joint.env_name(joint.shape().env_of(q));

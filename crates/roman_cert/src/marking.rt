@@ -1,8 +1,9 @@
 //! Marks the pairs of the entries on which an entry depends.
 ghost use Rattle.std.specs.Prelude.{◌≡◌, ℕ, ◌<◌, ◌&&◌, ◌||◌, length, slice_get, Some};
-ghost use Rattle.roman_model.specs.Arena.{Entry, is_among, IsOrder};
-ghost use Rattle.roman_model.specs.Explanation.{answers, rests_on};
-ghost use Rattle.roman_order.specs.Board.{pairs_of, as_entry, is_marked};
+ghost use Rattle.roman_model.specs.Arena.{Entry, is_among};
+ghost use Rattle.roman_model.specs.Explanation.{answers};
+ghost use Rattle.roman_order.specs.Board.{is_marked};
+ghost use Rattle.roman_cert.specs.Slices.{ChangesMarks, HasAct, IsOrderOf, MarksAnswers, MarksSlice};
 
 use crate::answers::answer;
 use roman_io::Steps;
@@ -19,12 +20,10 @@ pub(crate) fn mark_slice<J: Rules, L: Ledger>(
     p: u32,
     steps: &mut Steps<L>,
 )
-    requires shaped { pairs_of order.old ≡ length (J.arena joint.now).nodes }
-    requires valid { IsOrder (J.arena joint.now) order.old.list }
+    requires order { IsOrderOf (J.arena joint.now) order.old }
     requires pair { p < length (J.arena joint.now).nodes }
-    ensures marked { let L = order.old.list in
-        (q : ℕ) → is_marked order.new q ≡ rests_on (J.arena joint.now) L (length L) p q }
-    ensures rest { order.new ≡ record order.old { marks = order.new.marks } }
+    ensures marked { MarksSlice (J.arena joint.now) order.old.list p order.new }
+    ensures rest { ChangesMarks order.old order.new }
 {
     joint.known(); // no two pairs have the same number
     order.clear_marks();
@@ -37,14 +36,13 @@ pub(crate) fn mark_slice<J: Rules, L: Ledger>(
 /// Marks the defeating answers to the entry at place `i` if that entry is marked.
 #[tactic(auto, using(crate::proofs::Answering::entry_node))]
 fn visit<J: Rules, L: Ledger>(joint: &J, order: &mut Order, i: u32, steps: &mut Steps<L>)
-    requires shaped { pairs_of order.old ≡ length (J.arena joint.now).nodes }
-    requires valid { IsOrder (J.arena joint.now) order.old.list }
+    requires order { IsOrderOf (J.arena joint.now) order.old }
     requires place { i < length order.old.list }
     ensures marked { let A = J.arena joint.now in
         (x : Entry ℕ) → slice_get order.old.list i ≡ Some x → (q : ℕ) → is_marked order.new q
         ≡ (is_marked order.old q || (is_marked order.old x.node
         && is_among A (answers A order.old.list x.node x.reason) q)) }
-    ensures rest { order.new ≡ record order.old { marks = order.new.marks } }
+    ensures rest { ChangesMarks order.old order.new }
 {
     joint.known(); // no two pairs have the same number
     order.known(); // listed pairs are pairs of the system
@@ -68,13 +66,10 @@ fn mark_answers<J: Rules, L: Ledger>(
     a: u8,
     steps: &mut Steps<L>,
 )
-    requires shaped { pairs_of order.old ≡ length (J.arena joint.now).nodes }
-    requires valid { IsOrder (J.arena joint.now) order.old.list }
-    requires entry { slice_get order.old.list i ≡ Some (as_entry (p, Reason.Act a)) }
-    ensures marked { let A = J.arena joint.now in
-        (q : ℕ) → is_marked order.new q
-        ≡ (is_marked order.old q || is_among A (answers A order.old.list p (Reason.Act a)) q) }
-    ensures rest { order.new ≡ record order.old { marks = order.new.marks } }
+    requires order { IsOrderOf (J.arena joint.now) order.old }
+    requires entry { HasAct order.old.list i p a }
+    ensures marked { MarksAnswers (J.arena joint.now) order.old order.new p (Reason.Act a) }
+    ensures rest { ChangesMarks order.old order.new }
 {
     joint.known(); // no two pairs have the same number
     for k in 0..joint.seats() {

@@ -1,10 +1,6 @@
 //! Explains why a pair isn't related.
-ghost use Rattle.std.specs.Prelude.{◌≡◌, ◌<◌, ◌++◌, length, map, codes};
-ghost use Rattle.std.specs.List.{flat_map};
-ghost use Rattle.roman_io.specs.Faults.{HasCause};
-ghost use Rattle.roman_io.specs.Sink.{Puts};
-ghost use Rattle.roman_text.specs.Pages.{Gathers};
-ghost use Rattle.roman_model.specs.Arena.{IsOrder};
+ghost use Rattle.std.specs.Prelude.{◌≡◌, ◌<◌, map};
+ghost use Rattle.roman_io.specs.SinkCalls.{WritesTo, FailsWith};
 ghost use Rattle.roman_model.specs.SystemArena.{arena};
 ghost use Rattle.roman_model.specs.Composition.{Great};
 ghost use Rattle.roman_model.specs.Explanation.{explanation, explain_text, ExplainedOrder};
@@ -12,10 +8,11 @@ ghost use Rattle.roman_model.specs.Numbers.{sizes_of, pair_at, entry_at};
 ghost use Rattle.roman_model.specs.Play.{OpponentWins};
 ghost use Rattle.roman_joint.specs.NamedSys.{system_of};
 ghost use Rattle.roman_joint.specs.Names.{names_in};
-ghost use Rattle.roman_order.specs.Board.{pairs_of, as_entry};
+ghost use Rattle.roman_order.specs.Board.{as_entry};
 ghost use Rattle.roman_relation.specs.Greatest.{IsUpToDate};
-ghost use Rattle.roman_cert.specs.Slices.{answers_text, entry_text, marked_text, StandsIn};
+ghost use Rattle.roman_cert.specs.Slices.{IsOrderOf, StandsIn, answers_text, entry_text, slice_text};
 ghost use Rattle.roman_joint.specs.Pairs.{joint_pairs, arena_of};
+ghost use Rattle.roman_text.specs.Pages.{Pushes};
 
 use crate::answers::answer;
 use crate::lines::{answer_piece, finish, push_lost};
@@ -48,7 +45,7 @@ pub fn write_slice<O: Sink, L: Ledger>(
     requires unrelated { let s = system_of relation.old.joint in Great s (pair_at (sizes_of s) p) → ⊥ }
     ensures text { let s = system_of relation.old.joint in
         let L = map (entry_at s) relation.old.order.list in
-        Puts (O.written out.old) (O.written out.new)
+        WritesTo O.Sink out.old out.new
         (explain_text s (names_in relation.old.joint) L (pair_at (sizes_of s) p)) result }
     ensures explained { let s = system_of relation.old.joint in
         ExplainedOrder s (map (entry_at s) relation.old.order.list) (pair_at (sizes_of s) p) }
@@ -60,7 +57,7 @@ pub fn write_slice<O: Sink, L: Ledger>(
     ensures rest { relation.new ≡ record relation.old {
       order = record relation.old.order { marks = relation.new.order.marks };
     } }
-    ensures cause { HasCause (O.faults out.old) (O.faults out.new) result }
+    ensures cause { FailsWith O.Sink out.old out.new result }
 {
     relation.joint.known(); // the system is well formed
     relation.order.known(); // listed pairs are pairs of the system
@@ -77,11 +74,9 @@ fn write_marked<O: Sink, L: Ledger>(
     out: &mut O,
     steps: &mut Steps<L>,
 ) -> Result<(), Failed>
-    requires shaped { pairs_of order.now ≡ length (arena_of joint.now).nodes }
-    requires valid { IsOrder (arena_of joint.now) order.now.list }
-    ensures text { Puts (O.written out.old) (O.written out.new)
-        (flat_map (marked_text joint.now order.now) order.now.list ++ codes "end\n") result }
-    ensures cause { HasCause (O.faults out.old) (O.faults out.new) result }
+    requires { IsOrderOf (arena_of joint.now) order.now }
+    ensures text { WritesTo O.Sink out.old out.new (slice_text joint.now order.now) result }
+    ensures cause { FailsWith O.Sink out.old out.new result }
 {
     joint.known(); // the system is well formed
     order.known(); // listed pairs are pairs of the system
@@ -118,12 +113,11 @@ fn push_entry<O: Sink, L: Ledger>(
     out: &mut O,
     steps: &mut Steps<L>,
 ) -> Result<(), Failed>
-    requires shaped { pairs_of order.now ≡ length (arena_of joint.now).nodes }
-    requires valid { IsOrder (arena_of joint.now) order.now.list }
+    requires order { IsOrderOf (arena_of joint.now) order.now }
     requires entry { StandsIn order.now.list entry entry.reason }
-    ensures gathers { Gathers (O.written out.old) (O.written out.new) page.new
-        (page.old ++ entry_text joint.now order.now.list (as_entry (entry.pair, entry.reason))) result }
-    ensures cause { HasCause (O.faults out.old) (O.faults out.new) result }
+    ensures gathers { Pushes O.Sink out.old out.new page.old page.new
+        (entry_text joint.now order.now.list (as_entry (entry.pair, entry.reason))) result }
+    ensures cause { FailsWith O.Sink out.old out.new result }
 {
     joint.known(); // allowed actions are actions of the system
     order.known(); // listed pairs are pairs of the system
@@ -144,12 +138,11 @@ fn push_answers<O: Sink, L: Ledger>(
     out: &mut O,
     steps: &mut Steps<L>,
 ) -> Result<(), Failed>
-    requires shaped { pairs_of order.now ≡ length (arena_of joint.now).nodes }
-    requires valid { IsOrder (arena_of joint.now) order.now.list }
+    requires order { IsOrderOf (arena_of joint.now) order.now }
     requires entry { StandsIn order.now.list entry (Reason.Act a) }
-    ensures gathers { Gathers (O.written out.old) (O.written out.new) page.new
-        (page.old ++ answers_text joint.now order.now.list (as_entry (entry.pair, Reason.Act a))) result }
-    ensures cause { HasCause (O.faults out.old) (O.faults out.new) result }
+    ensures gathers { Pushes O.Sink out.old out.new page.old page.new
+        (answers_text joint.now order.now.list (as_entry (entry.pair, Reason.Act a))) result }
+    ensures cause { FailsWith O.Sink out.old out.new result }
 {
     joint.known(); // the system is well formed
     order.known(); // listed pairs are pairs of the system

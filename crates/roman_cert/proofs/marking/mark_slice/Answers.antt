@@ -9,7 +9,7 @@ loop-i-preserved g c =
     let list : c.loop-i.order.list ≡ L = ap (λ (b : Board). b.list) c.loop-i.invariant.rest in
     let begun : length c.mark.new.self.list ≡ length L = ap (λ (b : Board). length b.list) (c.mark.ensures.rest ∙ ap (λ (b : Board). record b { marks = c.mark.new.self.marks }) c.clear_marks.ensures.rest) in
     record {
-      marked = rests_back A (numbered_same A c.known.ensures.numbered) L c.requires.valid c.args.p c.loop-i.order.list c.loop-i.i (is_marked c.loop-i.order) (is_marked c.visit.new.order) list c.loop-i-test.true
+      marked = rests_back A (numbered_same A c.known.ensures.numbered) L c.requires.order.1 c.args.p c.loop-i.order.list c.loop-i.i (is_marked c.loop-i.order) (is_marked c.visit.new.order) list c.loop-i-test.true
           (omega (arith, c.len-i.ensures.value)) c.loop-i.invariant.marked c.visit.ensures.marked;
       rest = c.visit.ensures.rest ∙ ap (λ (b : Board). record b { marks = c.visit.new.order.marks }) c.loop-i.invariant.rest;
     }

@@ -17,13 +17,13 @@ answer_piece-line-requires-clause-pair g c q e = grind (arith, if_some, length-b
 
 pub returns-in_err-push-clause-gathers : goal.returns-in_err-push-clause-gathers
 returns-in_err-push-clause-gathers g c =
-    let said = seat_said _ c.args.order.now c.args.entry.place _ _ _ c.answer-found.result _ c.known.ensures c.requires.shaped c.known-2.ensures.in_range c.requires.entry (sym c.is_ready.ensures ∙ c.if-not-is_ready.false) c.answer-found.ensures.answer (c.bytes.ensures ∙ c.answer_piece-line.ensures) in
+    let said = seat_said _ c.args.order.now c.args.entry.place _ _ _ c.answer-found.result _ c.known.ensures c.requires.order.0 c.known-2.ensures.in_range c.requires.entry (sym c.is_ready.ensures ∙ c.if-not-is_ready.false) c.answer-found.ensures.answer (c.bytes.ensures ∙ c.answer_piece-line.ensures) in
     let p = err_from_is_err_and c.from_residual.result c.from_residual.ensures.1 in
     rw p.1 (fill_stops _ _ _ _ _ (seat_in c.args.joint.now c.loop-k.k (omega (arith, c.seats-k-end.ensures.count))) _ _ _ _ _ said c.loop-k.invariant.filling _ c.in_err-push.ensures.gathers.0, c.in_err-push.ensures.gathers.1)
 
 pub loop-k-preserved : goal.loop-k-preserved
 loop-k-preserved g c =
-    let said = seat_said _ c.args.order.now c.args.entry.place _ _ _ c.answer-found.result _ c.known.ensures c.requires.shaped c.known-2.ensures.in_range c.requires.entry (sym c.is_ready.ensures ∙ c.if-not-is_ready.false) c.answer-found.ensures.answer (c.bytes.ensures ∙ c.answer_piece-line.ensures) in
+    let said = seat_said _ c.args.order.now c.args.entry.place _ _ _ c.answer-found.result _ c.known.ensures c.requires.order.0 c.known-2.ensures.in_range c.requires.entry (sym c.is_ready.ensures ∙ c.if-not-is_ready.false) c.answer-found.ensures.answer (c.bytes.ensures ∙ c.answer_piece-line.ensures) in
     record {
       filling = fill_next _ _ _ _ _ (seat_in c.args.joint.now c.loop-k.k (omega (arith, c.seats-k-end.ensures.count))) _ _ _ _ _ said c.loop-k.invariant.filling _ _ c.in_ok-push.ensures.gathers;
       cause = c.in_ok-push.ensures.cause.stays ∙ c.loop-k.invariant.cause;

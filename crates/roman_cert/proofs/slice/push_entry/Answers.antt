@@ -3,11 +3,12 @@ use Rattle.roman_cert.proofs.AnswerTexts.{no_answers}
 use Rattle.roman_cert.proofs.SliceTexts.{entry_pair, entry_reason}
 use Rattle.roman_cert.proofs.slice.push_entry.Goals as goal
 
-pub push_lost-requires-clause-pair : goal.push_lost-requires-clause-pair
-push_lost-requires-clause-pair g c = entry_pair c.args.joint.now c.args.order.now c.args.entry.place (as_entry (c.args.entry.pair, c.args.entry.reason)) c.requires.shaped c.known-2.ensures.in_range c.requires.entry
-
-pub push_lost-requires-clause-reason : goal.push_lost-requires-clause-reason
-push_lost-requires-clause-reason g c = entry_reason c.args.joint.now c.args.order.now.list c.args.entry.place (as_entry (c.args.entry.pair, c.args.entry.reason)) c.known.ensures c.requires.valid c.requires.entry
+pub push_lost-requires : goal.push_lost-requires
+push_lost-requires g c =
+    let entry = as_entry (c.args.entry.pair, c.args.entry.reason) in (
+      entry_pair c.args.joint.now c.args.order.now c.args.entry.place entry c.requires.order.0 c.known-2.ensures.in_range c.requires.entry,
+      entry_reason c.args.joint.now c.args.order.now.list c.args.entry.place entry c.known.ensures c.requires.order.1 c.requires.entry,
+    )
 
 pub returns-in_err-push_lost-clause-gathers : goal.returns-in_err-push_lost-clause-gathers
 unfolding entry_text

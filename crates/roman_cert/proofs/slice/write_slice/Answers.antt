@@ -1,23 +1,23 @@
-use Rattle.roman_cert.proofs.Common.{Board, is_marked, IsOrder, ap, arith, length, subst, sym, ℕ, ◌∙◌, ◌≡◌, arena_of, complete_order, length-below, count, sizes_of, listed_numbers, rests_on, system_of}
+use Rattle.roman_cert.proofs.Common.{Board, is_marked, IsOrderOf, ap, arith, length, subst, sym, ℕ, ◌∙◌, ◌≡◌, arena_of, complete_order, length-below, count, sizes_of, listed_numbers, rests_on, system_of}
 use Rattle.roman_cert.proofs.Slicing.{explanation_said, unrelated_explained, unrelated_wins}
 use Rattle.roman_cert.proofs.slice.write_slice.Goals as goal
 
-pub mark_slice-requires-clause-valid : goal.mark_slice-requires-clause-valid
-mark_slice-requires-clause-valid g c =
+pub mark_slice-requires-clause-order : goal.mark_slice-requires-clause-order
+mark_slice-requires-clause-order g c =
     let relation = c.args.relation.now in
     let s = system_of relation.joint in
-    subst (λ (b : Board). IsOrder (arena_of relation.joint) b.list) (sym c.place_all.ensures.same)
-    (complete_order s relation.order.list c.known.ensures.system (listed_numbers s relation.order c.requires.relation.shaped.pairs c.known-2.ensures.in_range) c.requires.relation.complete.list)
+    subst (IsOrderOf (arena_of relation.joint)) (sym c.place_all.ensures.same)
+    (c.requires.relation.shaped.pairs, complete_order s relation.order.list c.known.ensures.system (listed_numbers s relation.order c.requires.relation.shaped.pairs c.known-2.ensures.in_range) c.requires.relation.complete.list)
 
 pub mark_slice-requires-clause-pair : goal.mark_slice-requires-clause-pair
 mark_slice-requires-clause-pair g c = omega (arith, c.requires.pair, length-below (count (sizes_of (system_of c.args.relation.now.joint))))
 
-pub write_marked-requires-clause-valid : goal.write_marked-requires-clause-valid
-write_marked-requires-clause-valid g c =
+pub write_marked-requires : goal.write_marked-requires
+write_marked-requires g c =
     let relation = c.args.relation.now in
     let s = system_of relation.joint in
-    subst (IsOrder (arena_of relation.joint)) (sym (ap (λ (b : Board). b.list) c.mark_slice.ensures.rest ∙ ap (λ (b : Board). b.list) c.place_all.ensures.same))
-    (complete_order s relation.order.list c.known.ensures.system (listed_numbers s relation.order c.requires.relation.shaped.pairs c.known-2.ensures.in_range) c.requires.relation.complete.list)
+    subst (IsOrderOf (arena_of relation.joint)) (sym (c.mark_slice.ensures.rest ∙ ap (λ (b : Board). record b { marks = c.mark_slice.new.order.marks }) c.place_all.ensures.same))
+    (c.requires.relation.shaped.pairs, complete_order s relation.order.list c.known.ensures.system (listed_numbers s relation.order c.requires.relation.shaped.pairs c.known-2.ensures.in_range) c.requires.relation.complete.list)
 
 pub returns-clause-text : goal.returns-clause-text
 returns-clause-text g c =
