@@ -118,6 +118,7 @@ fn clear_within(joint: &Joint, attempt: &Attempt<'_>, alive: &[u64], k: u8, left
 
 /// Clears, in `left`, the pairs of a band at which the seat `k` serves the action. `alive` holds the
 /// alive lanes of each row's attempt.
+#[inline(always)]
 pub(crate) fn clear_seat(
     joint: &Joint,
     attempt: &Attempt<'_>,
