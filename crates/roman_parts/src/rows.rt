@@ -33,10 +33,10 @@ impl Rows {
     {
         let mut bounds = Vec::with_capacity(alloc, masks.len() + 1)?;
         let mut items = Vec::with_capacity(alloc, count(masks))?;
-        bounds.push(0)?;
+        bounds.push_reserved(0);
         for mask in masks {
             push_states(&mut items, *mask)?;
-            bounds.push(items.len() as u32)?;
+            bounds.push_reserved(items.len() as u32);
         }
         Ok(Rows { bounds, items })
     }

@@ -12,7 +12,9 @@ loop-mask-preserved c =
     let few = length-states_of mask in
     let more = ap length c.in_ok-push_states.ensures in
     record {
-      laid = rw (c.in_ok-push-2.ensures.items, c.in_ok-push_states.ensures, map_more states_of c.args.masks.now c.loop-mask.mask-index 0 (omega arith))
+      laid = rw (c.push_reserved-in-loop-mask.ensures.items, c.in_ok-push_states.ensures, map_more states_of c.args.masks.now c.loop-mask.mask-index 0 (omega arith))
           (laid_more c.loop-mask.bounds.items c.loop-mask.items.items _ _ c.len.result c.loop-mask.invariant.laid (omega arith));
       small = omega (arith, length-append c.loop-mask.items.items (states_of mask));
+      long = grind (arith, c.loop-mask.invariant.long, c.push_reserved-in-loop-mask.ensures.items, length-append);
+      room = omega (arith, c.loop-mask.invariant.room, c.push_reserved-in-loop-mask.ensures.capacity);
     }

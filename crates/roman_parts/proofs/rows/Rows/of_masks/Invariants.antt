@@ -1,4 +1,4 @@
-use Rattle.roman_parts.proofs.Common.{◌*◌, ◌≤◌, length, map, take, states_of}
+use Rattle.roman_parts.proofs.Common.{◌≡◌, ◌+◌, ◌*◌, ◌≤◌, length, vec_capacity, map, take, states_of}
 use Rattle.roman_parts.proofs.RowLemmas.{IsLaid}
 use Rattle.roman_parts.proofs.rows.Rows.of_masks.Given as goal
 
@@ -7,4 +7,6 @@ abbrev pub invariant-loop-mask : goal.invariant-loop-mask
 invariant-loop-mask l = record {
   laid : IsLaid l.bounds.items l.items.items (map states_of (take l.mask-index l.masks));
   small : length l.items.items ≤ 64 * l.mask-index;
+  long : length l.bounds.items ≡ l.mask-index + 1;
+  room : length l.masks + 1 ≤ vec_capacity l.bounds;
 }
