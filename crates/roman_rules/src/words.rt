@@ -4,13 +4,18 @@ ghost use Rattle.std.specs.Prelude.{◌≡◌, ℕ, ◌+◌, ◌<◌, ◌≤◌,
 /// The greatest number of rows in a band.
 pub const BAND: usize = 64;
 
-/// Copies the words of the rows from the row `x` on to `to`, as many as `to` has places.
+/// Copies the words of the rows from the row `x` on to `to`, as many as `to` has places. Copies a single
+/// word directly.
 pub fn copy_rows(words: &[u64], x: u32, to: &mut [u64])
     requires { x + length to.old ≤ length words.now }
     ensures long { length to.new ≡ length to.old }
     ensures each { (i : ℕ) → i < length to.old → slice_index to.new i ≡ slice_index words.now (x + i) }
 {
     let from = x as usize;
+    if to.len() == 1 {
+        to[0] = words[from];
+        return;
+    }
     for i in 0..to.len() {
         to[i] = words[from + i];
     }

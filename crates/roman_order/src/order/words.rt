@@ -45,7 +45,8 @@ impl Order {
     }
 }
 
-/// Copies the words from place `from` up to place `to`, without the one at `to`.
+/// Copies the words from place `from` up to place `to`, without the one at `to`. Copies a single word
+/// directly.
 #[inline(always)]
 fn copy_part(table: &mut [u64], words: &[u64], from: usize, to: usize)
     requires { (from ≤ to) × (to ≤ length table.old) × (to ≤ length words.now) }
@@ -53,5 +54,9 @@ fn copy_part(table: &mut [u64], words: &[u64], from: usize, to: usize)
     ensures others { SameOutside from to table.old table.new }
     ensures long { length table.new ≡ length table.old }
 {
+    if to - from == 1 {
+        table[from] = words[from];
+        return;
+    }
     table[from..to].copy_from_slice(&words[from..to]);
 }
