@@ -7,8 +7,10 @@ it fails as well, so that it can't be lost again unseen.
 """
 
 import hashlib
+import itertools
 import json
 import os
+import random
 import re
 import subprocess
 from concurrent.futures import ThreadPoolExecutor
@@ -32,6 +34,9 @@ MEASURED = {
     "workers": ["synth", "certify", "check", "run", "shortest", "resilience"],
     "lamps": ["synth", "certify", "check", "run", "shortest", "talk"],
     "cycle": ["synth", "shortest"],
+    "random": ["synth"],
+    "wide": ["synth"],
+    "guards": ["synth"],
 }
 """The commands that are measured on each system; `talk` is `run` with many requests."""
 if "ROMAN_MEASURED" in os.environ:
@@ -146,6 +151,65 @@ def cycle() -> dict[str, object]:
     )
 
 
+@dataclass(frozen=True)
+class Drawn:
+    """What a system is drawn from: its numbers of states and actions, the sizes of its services, and shares."""
+
+    seed: int
+    wants: int
+    worlds: int
+    acts: int
+    sizes: tuple[int, ...]
+    kinds: int
+    served: float
+    doubled: float = 0.25
+    guarded: float = 0.25
+    final: float = 0.85
+
+
+def drawn(of: Drawn) -> dict[str, object]:
+    """A system drawn at random. Each service has one of `kinds` behaviours of its size."""
+    rng = random.Random(of.seed)
+    envs, actions, wants = (
+        [f"{c}{i}" for i in range(n)] for c, n in (("e", of.worlds), ("a", of.acts), ("t", of.wants))
+    )
+
+    def guard() -> object:
+        if rng.random() >= of.guarded:
+            return True
+        some = sorted(rng.sample(envs, rng.randint(1, of.worlds)))
+        return some if rng.random() < 0.5 else {"not": some[:-1]}
+
+    def machine(name: str, size: int) -> dict[str, object]:
+        states = [f"s{i}" for i in range(size)]
+        steps: list[list[object]] = []
+        for state, action in itertools.product(states, actions):
+            if rng.random() < of.served:
+                when = guard()
+                steps.append([state, when, action, rng.choice(states)])
+                if rng.random() < of.doubled:
+                    steps.append([state, when, action, rng.choice(states)])
+        final = [state for state in states if state == "s0" or rng.random() < of.final]
+        return {"name": name, "states": states, "start": "s0", "final": final, "steps": steps}
+
+    steps: list[list[object]] = [[e, a, rng.choice(envs)] for e in envs for a in actions]
+    steps += [[e, a, rng.choice(envs)] for e in envs for a in actions if rng.random() < of.doubled]
+    behaviours = [machine(f"b{size}_{j}", size) for size in sorted(set(of.sizes)) for j in range(of.kinds)]
+    services = [(f"w{i}", f"b{size}_{rng.randrange(of.kinds)}") for i, size in enumerate(of.sizes, 1)]
+    asked = [[t, guard(), a, rng.choice(wants)] for t in wants for a in rng.sample(actions, 2)]
+    final = [t for t in wants if rng.random() < 0.3]
+    target: dict[str, object] = {"states": wants, "start": "t0", "final": final, "steps": asked}
+    return {**system(envs, actions, steps, behaviours, services, target), "roman": 2}
+
+
+DRAWN = {
+    "random": Drawn(4, 4, 5, 6, (4, 3, 5, 4, 3, 5), 2, 0.8, doubled=0.2, final=0.95),
+    "wide": Drawn(21, 3, 2, 4, (2, 2, 2, 2, 3, 2, 2, 2, 3, 2, 2, 2, 2, 3), 4, 0.5),
+    "guards": Drawn(44, 5, 40, 12, (5, 6, 5, 6), 2, 0.75, guarded=0.4),
+}
+"""Random systems: one in which few rows are left to examine, one of many services, and one of many guards."""
+
+
 def session(names: list[str], behaviour: str, state: str, action: str) -> str:
     """Freezes, thaws, deaths and joins of the first, the middle and the last service, each with a request."""
     asked = [f"do {action}", "abort"]
@@ -176,7 +240,8 @@ class Bench:
         self.folder = folder
         self.peak = folder / "peak"
         subprocess.run(["cc", "-O1", "-o", self.peak, Path(__file__).with_name("peak.c")], check=True)
-        for name, made in (("workers", workers()), ("lamps", lamps()), ("cycle", cycle())):
+        systems = {"workers": workers(), "lamps": lamps(), "cycle": cycle()}
+        for name, made in [*systems.items(), *((name, drawn(of)) for name, of in DRAWN.items())]:
             (folder / f"{name}.json").write_text(json.dumps(made, separators=(",", ":")), encoding="utf-8")
         for name in ("workers", "lamps"):
             (folder / f"{name}.cert").write_bytes(self.run([], [PROGRAM, "certify", f"{name}.json"]).text)
