@@ -25,8 +25,8 @@ PASSED_ON = re.compile(r"(?:unfoldable )?pub use \S+\.\{(.*)\}$")
 RESTS_ON: dict[Definition, int] = {
     Definition("roman_model.specs.Composition", "Great"): 23,
     Definition("roman_model.specs.Several", "GreatAll"): 23,
-    Definition("roman_top.specs.Headline", "KeepsPromise"): 260,
-    Definition("roman_top.specs.HeadlineTargets", "KeepsTargets"): 285,
+    Definition("roman_top.specs.Headline", "KeepsPromise"): 261,
+    Definition("roman_top.specs.HeadlineTargets", "KeepsTargets"): 286,
 }
 
 # The pages of what is computed of a system, and of what a session keeps. Beside the meaning of documents the headline

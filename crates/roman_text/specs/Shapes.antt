@@ -39,8 +39,12 @@ abbrev pub has_bytes : List ℕ → Bool
 has_bytes [] = false
 has_bytes (byte ∷ bytes) = true
 
+-- words, each a list of bytes
+abbrev pub Words : Type 0
+Words = List (List ℕ)
+
 -- the words of a line: the parts between its blanks
-unfoldable pub words_of : List ℕ → List (List ℕ)
+unfoldable pub words_of : List ℕ → Words
 words_of line = filter has_bytes (slice_split is_blank line)
 
 -- a word that makes the line a comment
@@ -84,7 +88,7 @@ with_four word a b c d =
     if bytes_eq word (codes "join") && bytes_eq d (codes "loose") then Ok (join a b c true) else Err Form
 
 -- the event of a line, by its first word and the other words
-abbrev pub by_words : List ℕ → List (List ℕ) → Result LineShape LineError
+abbrev pub by_words : List ℕ → Words → Result LineShape LineError
 by_words word [] = alone word
 by_words word (a ∷ []) = with_one word a
 by_words word (a ∷ b ∷ []) = with_two word a b
@@ -93,7 +97,7 @@ by_words word (a ∷ b ∷ c ∷ d ∷ []) = with_four word a b c d
 by_words word (a ∷ b ∷ c ∷ d ∷ e ∷ more) = Err Form
 
 -- the event of a line, by all its words: a line without words and a comment get no reply
-abbrev pub shape_of_words : List (List ℕ) → Result LineShape LineError
+abbrev pub shape_of_words : Words → Result LineShape LineError
 shape_of_words [] = Ok nothing
 shape_of_words (word ∷ more) = if is_comment word then Ok nothing else by_words word more
 
@@ -103,7 +107,7 @@ shape_of line =
     if nat_lt 256 (length line) then Err TooLong else shape_of_words (words_of (strip_carriage_return line))
 
 -- the words of an event's line
-abbrev pub spelling : LineShape → List (List ℕ)
+abbrev pub spelling : LineShape → Words
 spelling nothing = []
 spelling (request action) = codes "do" ∷ action ∷ []
 spelling (delegate service) = codes "use" ∷ service ∷ []

@@ -3,9 +3,8 @@
 ghost use Rattle.std.specs.Prelude.{◌≡◌, ◌≢◌, ℕ, List};
 ghost use Rattle.roman_model.specs.Lines.{ended_lines};
 ghost use Rattle.roman_text.specs.Lines.{IsSplit, unfinished, kept};
-ghost use Rattle.roman_text.specs.Shapes.{LineShape, nothing, spelling, shape_of, shape_of_words};
-
-use crate::errors::LineError;
+ghost use Rattle.roman_text.specs.Shapes.{LineShape, Words, nothing, spelling, shape_of, shape_of_words};
+ghost use Rattle.roman_text.specs.declared.errors.LineError.TheVariants.{Form};
 
 /// The bytes before each newline are the lines of a text, and this split is the only one. So the
 /// lines don't depend on the pieces in which the bytes arrive.
@@ -21,9 +20,9 @@ pub fn split_lines()
 #[tactic(auto, using(crate::proofs::ShapeLemmas::spelling_only))]
 pub fn spell_events()
     ensures read { (event : LineShape) → shape_of_words (spelling event) ≡ Ok event }
-    ensures only { (words : List (List ℕ)) (event : LineShape) → shape_of_words words ≡ Ok event → event ≢ nothing →
+    ensures only { (words : Words) (event : LineShape) → shape_of_words words ≡ Ok event → event ≢ nothing →
         words ≡ spelling event }
-    ensures form { (words : List (List ℕ)) (event : LineShape) → shape_of_words words ≡ Err LineError.Form →
+    ensures form { (words : Words) (event : LineShape) → shape_of_words words ≡ Err Form →
         words ≢ spelling event }
 {}
 
