@@ -2,15 +2,18 @@
 use Rattle.std.specs.Prelude.{◌≡◌, ◌≢◌, ℕ, ◌<◌, List, [], Option, IfSome, Result, Ok, Err}
 use Rattle.roman_io.specs.Shelf.{Texts}
 use Rattle.roman_io.specs.Sink.{Wrote, WrotePrefix}
+use Rattle.roman_io.specs.declared.shelf.Shelf.{Ghosts as ShelfView}
+use Rattle.roman_io.specs.declared.sink.Sink.{Ghosts as SinkView}
 use Rattle.roman_model.specs.Numbers.{sizes_of, count, pair_at}
 use Rattle.roman_joint.specs.NamedSys.{system_of}
 use Rattle.roman_library.specs.Documents.{library_of}
-use Rattle.roman_library.specs.Library.{PlainLibrary}
+use Rattle.roman_library.specs.Library.{PlainLibrary, plain}
+use Rattle.roman_library.specs.declared.library.Library.{Library}
 use Rattle.roman_relation.specs.Greatest.{IsRelation}
 use Rattle.roman_start.specs.Starts.{parts_of, start_pair_of}
 use Rattle.roman_opening.specs.Causes.{ShelfCause, SinkCause}
 use Rattle.roman_opening.specs.Opening.{Accepted, document_opening, OnOpening, library_system}
-use Rattle.roman_opening.specs.Outputs.{Outputs}
+use Rattle.roman_opening.specs.Outputs.{Outputs, outputs_of}
 use Rattle.roman_opening.specs.declared.opening.Related.{Related}
 use Rattle.roman_opening.specs.declared.status.Status.{Status}
 use Rattle.roman_opening.specs.declared.status.Status.TheVariants as status
@@ -86,6 +89,19 @@ pub record Accepts (name : List ℕ) (texts : Texts) (Holds : PlainLibrary → T
 -- a value was made from the document of that name, or the run ended with the line that turns the document away
 abbrev pub OpensDocument : {X : Type 0} → (PlainLibrary → X → Type 0) → List ℕ → Outputs → Outputs → Result X Status → Type 0
 OpensDocument Holds name old new result = Opens (λ texts x. Accepts name texts (λ library. Holds library x)) (TurnsAway name) old new result
+
+-- a value was made from the document of that name, or the run ended, in words for contracts at bounds `F: Shelf` and `O: Sink`
+abbrev pub OpensFrom : {F O X : Type 0} → ShelfView F → SinkView O → (PlainLibrary → X → Type 0) → List ℕ → F → O → F → O → Result X Status → Type 0
+OpensFrom F O Holds name shelf out shelf_now out_now result = OpensDocument Holds name (outputs_of F O shelf out) (outputs_of F O shelf_now out_now) result
+
+-- the library of the document of that name was read, or the run ended with the line that turns the document away
+abbrev pub ReadsLibrary : {F O : Type 0} → ShelfView F → SinkView O → List ℕ → F → O → F → O → Result Library Status → Type 0
+ReadsLibrary F O name shelf out shelf_now out_now result =
+    Opens (λ texts library. MeansLibrary name texts (plain library)) (TurnsAway name) (outputs_of F O shelf out) (outputs_of F O shelf_now out_now) result
+
+-- the property holds of the value, for some library
+abbrev pub IsOfSome : {X : Type 0} → (PlainLibrary → X → Type 0) → X → Type 0
+IsOfSome Holds x = (library : PlainLibrary) × Holds library x
 
 -- the greatest relation of the library's system, and the number of its start pair
 pub record IsRelated (library : PlainLibrary) (related : Related) : Type 0 where

@@ -1,12 +1,11 @@
 //! Opens the system document of a command.
 ghost use Rattle.std.specs.Prelude.{◌≤◌, length, IfOk};
 ghost use Rattle.roman_model.specs.declared.limits.TheConstants.{MAX_BEHAVIOURS};
-ghost use Rattle.roman_library.specs.Library.{PlainLibrary, IsLibrary, plain};
+ghost use Rattle.roman_library.specs.Library.{IsLibrary, plain};
 ghost use Rattle.roman_start.specs.Seating.{IsSeated};
 ghost use Rattle.roman_session.specs.Starts.{IsStart};
 ghost use Rattle.roman_hearing.specs.Known.{AreBehaviours};
-ghost use Rattle.roman_opening.specs.Endings.{IsRelated, MeansLibrary, Opens, OpensDocument, TurnsAway};
-ghost use Rattle.roman_opening.specs.Outputs.{outputs};
+ghost use Rattle.roman_opening.specs.Endings.{IsRelated, IsOfSome, OpensFrom, ReadsLibrary};
 
 use crate::limits::put_limit;
 use crate::refusals::put_refusal;
@@ -38,11 +37,9 @@ pub fn open_system<F: Shelf, O: Sink>(
     shelf: &mut F,
     out: &mut O,
 ) -> Result<Seated, Status>
-    ensures opens { OpensDocument IsSeated name.now
-        (outputs (F.texts shelf.old) (F.faults shelf.old) (O.written out.old) (O.faults out.old))
-        (outputs (F.texts shelf.new) (F.faults shelf.new) (O.written out.new) (O.faults out.new)) result }
-    ensures seated { IfOk result (λ seated. (library : PlainLibrary) × IsSeated library seated) }
-    ensures few { IfOk result (λ seated. length seated.joint.catalogue ≤ MAX_BEHAVIOURS) }
+    ensures opens { OpensFrom F.Shelf O.Sink IsSeated name.now shelf.old out.old shelf.new out.new result }
+    ensures seated { IfOk result (IsOfSome IsSeated) }
+    ensures few { IfOk result (λ x. length x.joint.catalogue ≤ MAX_BEHAVIOURS) }
 {
     let library = match read_library(alloc, name, shelf, out) {
         Ok(library) => library,
@@ -66,10 +63,8 @@ pub fn open_relation<F: Shelf, O: Sink, L: Ledger>(
     out: &mut O,
     steps: &mut Steps<L>,
 ) -> Result<Related, Status>
-    ensures opens { OpensDocument IsRelated name.now
-        (outputs (F.texts shelf.old) (F.faults shelf.old) (O.written out.old) (O.faults out.old))
-        (outputs (F.texts shelf.new) (F.faults shelf.new) (O.written out.new) (O.faults out.new)) result }
-    ensures related { IfOk result (λ related. (library : PlainLibrary) × IsRelated library related) }
+    ensures opens { OpensFrom F.Shelf O.Sink IsRelated name.now shelf.old out.old shelf.new out.new result }
+    ensures related { IfOk result (IsOfSome IsRelated) }
 {
     let Seated { joint, start, .. } = match open_system(alloc, name, shelf, out) {
         Ok(seated) => seated,
@@ -90,9 +85,7 @@ pub fn open_session<F: Shelf, O: Sink, L: Ledger>(
     out: &mut O,
     steps: &mut Steps<L>,
 ) -> Result<Session, Status>
-    ensures opens { OpensDocument IsStart name.now
-        (outputs (F.texts shelf.old) (F.faults shelf.old) (O.written out.old) (O.faults out.old))
-        (outputs (F.texts shelf.new) (F.faults shelf.new) (O.written out.new) (O.faults out.new)) result }
+    ensures opens { OpensFrom F.Shelf O.Sink IsStart name.now shelf.old out.old shelf.new out.new result }
     ensures behaviours { IfOk result (λ session. AreBehaviours session.parts) }
 {
     let library = match read_library(alloc, name, shelf, out) {
@@ -115,9 +108,7 @@ fn read_library<F: Shelf, O: Sink>(
     shelf: &mut F,
     out: &mut O,
 ) -> Result<Library, Status>
-    ensures reads { Opens (λ texts library. MeansLibrary name.now texts (plain library)) (TurnsAway name.now)
-        (outputs (F.texts shelf.old) (F.faults shelf.old) (O.written out.old) (O.faults out.old))
-        (outputs (F.texts shelf.new) (F.faults shelf.new) (O.written out.new) (O.faults out.new)) result }
+    ensures reads { ReadsLibrary F.Shelf O.Sink name.now shelf.old out.old shelf.new out.new result }
     ensures library { IfOk result (λ library. IsLibrary (plain library)) }
 {
     match load(alloc, shelf, name) {

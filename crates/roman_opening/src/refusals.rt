@@ -1,7 +1,6 @@
 //! The line that reports a refusal.
 ghost use Rattle.std.specs.Prelude.{◌≡◌, ◌≤◌, length};
-ghost use Rattle.roman_io.specs.Faults.{HasCause};
-ghost use Rattle.roman_io.specs.Sink.{Puts};
+ghost use Rattle.roman_io.specs.SinkCalls.{WritesTo, FailsWith};
 ghost use Rattle.roman_opening.specs.RefusalLine.{refusal_line, kind_word, part_word, part_number, list_word, choice_words, rule_text};
 
 use roman_io::{Failed, Sink};
@@ -13,8 +12,8 @@ use roman_text::{Page, Piece};
 /// Writes `refused DOCUMENT KIND PART NUMBER LIST INDEX` and a newline. For a choice, the line ends
 /// with the number of the earlier transition and the name of the environment state.
 pub fn put_refusal<O: Sink>(refusal: &Refusal, out: &mut O) -> Result<(), Failed>
-    ensures puts { Puts (O.written out.old) (O.written out.new) (refusal_line refusal.now) result }
-    ensures cause { HasCause (O.faults out.old) (O.faults out.new) result }
+    ensures puts { WritesTo O.Sink out.old out.new (refusal_line refusal.now) result }
+    ensures cause { FailsWith O.Sink out.old out.new result }
 {
     let mut page = Page::new();
     page.push(b"refused ", out)?;
