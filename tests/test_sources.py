@@ -25,8 +25,8 @@ PASSED_ON = re.compile(r"(?:unfoldable )?pub use \S+\.\{(.*)\}$")
 RESTS_ON: dict[Definition, int] = {
     Definition("roman_model.specs.Composition", "Great"): 23,
     Definition("roman_model.specs.Several", "GreatAll"): 23,
-    Definition("roman_top.specs.Headline", "KeepsPromise"): 261,
-    Definition("roman_top.specs.HeadlineTargets", "KeepsTargets"): 286,
+    Definition("roman_top.specs.Headline", "FulfilsPromise"): 261,
+    Definition("roman_top.specs.HeadlineTargets", "FulfilsTargets"): 286,
 }
 
 # The pages of what is computed of a system, and of what a session keeps. Beside the meaning of documents the headline
@@ -46,6 +46,8 @@ ENTRY = Definition("roman_model.specs.Arena", "Entry")
 
 # The engine's word for what one may want to name so. These words mean other things: see the table in CONTRIBUTING.
 ENGINE_WORDS = {"ask": "probe", "event": "batch", "turn": "attempt", "way": "shift", "run": "stripe"}
+STAYING = {"Keeps", "KeepsAll", "KeepsTheMost"}
+"""The definitions that state that something stays. A text fulfils a promise, and a result obeys a rule."""
 ENGINE = {
     f"roman_{name}"
     for name in ("lanes order rules joint relation generator repair repair_laws rank cert check".split())
@@ -191,6 +193,11 @@ def test_the_engine_has_one_word_for_each_thing() -> None:
     assert other == []
 
 
+def test_a_definition_with_keeps_states_that_something_stays() -> None:
+    names = {name for page in sources("specs", ".antt") for name in DEFINED.findall(page.read_text(encoding="utf-8"))}
+    assert {name for name in names if re.match("Keeps([A-Z]|$)", name)} <= STAYING
+
+
 def test_each_lemma_is_cited() -> None:
     pages = {
         file: file.read_text(encoding="utf-8")
@@ -223,8 +230,8 @@ def test_what_readers_are_sent_to_rests_on_few_definitions() -> None:
 
 def test_the_headline_names_nothing_that_is_computed() -> None:
     for root in (
-        Definition("roman_top.specs.Headline", "KeepsPromise"),
-        Definition("roman_top.specs.HeadlineTargets", "KeepsTargets"),
+        Definition("roman_top.specs.Headline", "FulfilsPromise"),
+        Definition("roman_top.specs.HeadlineTargets", "FulfilsTargets"),
     ):
         beside = rests_on([root]) - rests_on([DOCUMENTS])
         assert {found for found in beside if found.page in NOT_IN_HEADLINE} == {ENTRY}

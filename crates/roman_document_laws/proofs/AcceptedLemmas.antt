@@ -1,5 +1,5 @@
 -- Parts and libraries that were read can be stated, and their names are distinct.
-use Rattle.roman_document_laws.proofs.Common.{AcceptedCanBeSaid, AcceptedNamesAreClear, HasClearNames, PartsCanBeSaid, AcceptedNameTargets, AreBefore, AreItems, Beh, Bool, CanList, Data, Env, Err, HasNoRepeats, IsDeterministic, IsEnv, IsFalse, IsIn, IsLibrary, IsMoveBefore, IsOver, IsSayable, IsSayableBeh, IsSayableEnv, IsSayableTarget, IsTripleBefore, IsTrue, List, MAX_ACTIONS, MAX_STATES, MAX_STEPS, Move, NamedBeh, NamedEnv, NamedTarget, NamesTargets, Ok, PartError, PlainCombined, PlainLibrary, PlainTargets, Result, Rises, Service, Some, Texts, Triple, [], any_false, ap, are_allowed, arith, as_object, behaviour_in, behaviour_known, behaviour_name, behaviour_of, below, bind_ok, both_ways, cases_eq, catalogue_in, check, check_is, codes, combined_behaviour, combined_of, combined_parts, combined_state_names, cond, environment_in, environment_known, environment_of, eqb-true, false, finals_of, from_map, from_normal_move, from_normal_triple, has_repeats, in_below, in_map, inl, inr, is_name, is_some, length, length-map, libraries_known, library_in, library_of, limit_of, looked, member_of, listed_in, listed_step, listed_triple, map, moves_of, name_of, names_of, new_behaviour_of, new_name_of, no_longer, normal_beh, normal_env, or_parts, part_of, parts_in, place_of, placed, placed_is, refl, request_names, requests_in, same_Some, same_ok, service_of, services_of, single_of, slice_get, slice_get_within, slice_index_or, stands_before, start_of, step_listed, subst, suc, sym, take, target_in, target_known, target_of, targets_combined, targets_in, there_some, triple_in, triples_of, true, value_at, version_of, zero, ℕ, ◌++◌, ◌<◌, ◌==◌, ◌>>=◌, ◌∙◌, ◌∷◌, ◌≡◌, ◌≤◌, ◌⊎◌, get_or_from_slice_get}
+use Rattle.roman_document_laws.proofs.Common.{AcceptedCanBeSaid, AcceptedNamesAreClear, HasClearNames, PartsCanBeSaid, AcceptedNameTargets, AreBefore, AreItems, Beh, Bool, CanList, Data, Env, Err, HasNoRepeats, IsDeterministic, IsEnv, IsFalse, IsIn, IsLibrary, IsMoveBefore, IsOver, IsSayable, IsSayableBeh, IsSayableEnv, IsSayableTarget, IsTripleBefore, IsTrue, List, MAX_ACTIONS, MAX_STATES, MAX_STEPS, Move, NamedBeh, NamedEnv, NamedTarget, NamesTargets, Ok, PartError, PlainCombined, PlainLibrary, PlainTargets, Result, Rises, Service, Some, Texts, Triple, [], any_false, ap, are_allowed, arith, as_object, behaviour_in, behaviour_known, behaviour_name, behaviour_of, below, bind_ok, both_ways, cases_eq, catalogue_in, check, check_is, codes, combined_behaviour, combined_of, combined_parts, combined_state_names, cond, environment_in, environment_known, environment_of, eqb-true, false, finals_of, from_map, from_normal_move, from_normal_triple, has_repeats, in_below, in_map, inl, inr, is_name, is_some, length, length-map, libraries_known, library_in, library_of, limit_of, looked, member_of, listed_in, listed_step, listed_triple, map, moves_of, name_of, names_of, new_behaviour_of, new_name_of, no_longer, normal_beh, normal_env, or_parts, part_of, parts_in, place_of, located, located_is, refl, request_names, requests_in, same_Some, same_ok, service_of, services_of, single_of, slice_get, slice_get_within, slice_index_or, stands_before, start_of, step_listed, subst, suc, sym, take, target_in, target_known, target_of, targets_combined, targets_in, there_some, triple_in, triples_of, true, value_at, version_of, zero, ℕ, ◌++◌, ◌<◌, ◌==◌, ◌>>=◌, ◌∙◌, ◌∷◌, ◌≡◌, ◌≤◌, ◌⊎◌, get_or_from_slice_get}
 use Rattle.roman_read.specs.declared.rules.Kind.TheVariants as kind
 use Rattle.roman_parts.specs.declared.error.List.{List as Place}
 use Rattle.roman_parts.specs.declared.error.List.TheVariants as list
@@ -172,7 +172,7 @@ behaviour_can : (texts : Texts) (document : List ℕ) (env : NamedEnv) (before :
 unfolding listed_in new_behaviour_of
 behaviour_can texts document env before d b h =
     let (p, e, h1) = bind_ok (part_of texts document (part.Behaviour (length before)) d) _ b h in
-    let (name, e1, h2) = bind_ok (new_name_of (map behaviour_name before) p.1) _ b (placed_is p.0 (part.Behaviour (length before)) (new_behaviour_of env before p.1) b h1) in
+    let (name, e1, h2) = bind_ok (new_name_of (map behaviour_name before) p.1) _ b (located_is p.0 (part.Behaviour (length before)) (new_behaviour_of env before p.1) b h1) in
     beh_can env p.1 b h2
 
 pub behaviours_can : (texts : Texts) (document : List ℕ) (env : NamedEnv) (d : Data) (xs : List NamedBeh) → catalogue_in texts document env d ≡ Ok xs → (b : NamedBeh) → IsIn b xs → IsSayableBeh env b
@@ -192,16 +192,16 @@ services_named document version catalogue d xs h =
 pub environment_can : (texts : Texts) (document : List ℕ) (d : Data) (env : NamedEnv) → environment_in texts document d ≡ Ok env → IsSayableEnv env
 unfolding environment_in
 environment_can texts document d env h =
-    let (member, e, h1) = bind_ok (placed document part.Environment (looked list.Whole 0 (member_of d (codes "environment")))) _ env h in
+    let (member, e, h1) = bind_ok (located document part.Environment (looked list.Whole 0 (member_of d (codes "environment")))) _ env h in
     let (p, e1, h2) = bind_ok (part_of texts document part.Environment member) _ env h1 in
-    env_can p.1 env (placed_is p.0 part.Environment (environment_of p.1) env h2)
+    env_can p.1 env (located_is p.0 part.Environment (environment_of p.1) env h2)
 
 one_target_can : (texts : Texts) (document : List ℕ) (env : NamedEnv) (d : Data) (t : NamedTarget) → target_in texts document env d ≡ Ok t → IsSayableTarget env t
 unfolding target_in
 one_target_can texts document env d t h =
-    let (member, e, h1) = bind_ok (placed document (part.Target 0) (looked list.Whole 0 (member_of d (codes "target")))) _ t h in
+    let (member, e, h1) = bind_ok (located document (part.Target 0) (looked list.Whole 0 (member_of d (codes "target")))) _ t h in
     let (p, e1, h2) = bind_ok (part_of texts document (part.Target 0) member) _ t h1 in
-    target_can env p.1 t (placed_is p.0 (part.Target 0) (target_of env p.1) t h2)
+    target_can env p.1 t (located_is p.0 (part.Target 0) (target_of env p.1) t h2)
 
 -- Libraries
 
@@ -223,7 +223,7 @@ one_made : (texts : Texts) (document : List ℕ) (version : ℕ) (env : NamedEnv
 unfolding parts_in
 one_made texts document version env catalogue d made never h = by (version == 3) refl h
   where
-    by : (several : Bool) → version == 3 ≡ several → cond several (targets_in texts document env d >>= (λ targets. placed document part.System (combined_of env catalogue targets)))
+    by : (several : Bool) → version == 3 ≡ several → cond several (targets_in texts document env d >>= (λ targets. located document part.System (combined_of env catalogue targets)))
         (target_in texts document env d >>= (λ target. Ok (record { environment = env; catalogue = catalogue; target = target }))) ≡ Ok made →
         (target : NamedTarget) × (target_in texts document env d ≡ Ok target) × (record { environment = env; catalogue = catalogue; target = target } ≡ made)
     by true e g = absurd (never (eqb-true version 3 e))
@@ -232,13 +232,13 @@ one_made texts document version env catalogue d made never h = by (version == 3)
 is_read : (texts : Texts) (document : List ℕ) (value : Data) (library : PlainLibrary) → library_in texts document value ≡ Ok library → (version_of value ≡ Ok 3 → ⊥) → IsRead texts document value library
 unfolding library_in
 is_read texts document value library h never =
-    let (version, e, h1) = bind_ok (placed document part.System (version_of value)) _ library h in
-    let (limit, e1, h2) = bind_ok (placed document part.System (limit_of value)) _ library h1 in
+    let (version, e, h1) = bind_ok (located document part.System (version_of value)) _ library h in
+    let (limit, e1, h2) = bind_ok (located document part.System (limit_of value)) _ library h1 in
     let (env, e2, h3) = bind_ok (environment_in texts document value) _ library h2 in
     let (catalogue, e3, h4) = bind_ok (catalogue_in texts document env value) _ library h3 in
     let (services, e4, h5) = bind_ok (services_of document version catalogue value) _ library h4 in
     let (made, e5, h6) = bind_ok (parts_in texts document version env catalogue value) _ library h5 in
-    let reads = placed_is document part.System (version_of value) version e in
+    let reads = located_is document part.System (version_of value) version e in
     let (target, e6, same) = one_made texts document version env catalogue value made (λ third. never (reads ∙ ap Ok third)) e5 in
     subst (IsRead texts document value) (ap (λ (m : PlainCombined). let L : PlainLibrary = record { environment = m.environment; catalogue = m.catalogue; services = services; target = m.target; limit = limit } in L) same ∙ same_ok _ library h6)
     (record { version = version; environment = e2; catalogue = e3; services = e4; target = e6 })
@@ -295,8 +295,8 @@ pub accepted_named : (texts : Texts) (document : List ℕ) (library : PlainLibra
 unfolding library_in
 accepted_named texts document library h =
     let (value, reads, means) = value_there texts document library h in
-    let (version, e, h1) = bind_ok (placed document part.System (version_of value)) _ library means in
-    let (limit, e1, h2) = bind_ok (placed document part.System (limit_of value)) _ library h1 in
+    let (version, e, h1) = bind_ok (located document part.System (version_of value)) _ library means in
+    let (limit, e1, h2) = bind_ok (located document part.System (limit_of value)) _ library h1 in
     let (env, e2, h3) = bind_ok (environment_in texts document value) _ library h2 in
     let (catalogue, e3, h4) = bind_ok (catalogue_in texts document env value) _ library h3 in
     let (services, e4, h5) = bind_ok (services_of document version catalogue value) _ library h4 in

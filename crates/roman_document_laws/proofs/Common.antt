@@ -15,7 +15,7 @@ pub use Rattle.roman_laws.specs.Outcomes.{HasStep}
 pub use Rattle.roman_library.specs.Documents.{behaviour_in, behaviour_step, target_step, value_at}
 unfoldable pub use Rattle.roman_library.specs.Documents.{behaviour_place, catalogue_in, combined_of, environment_in, file_of, frozen_of, library_in, library_of, limit_in, limit_of, listed_in, named_target_of, new_behaviour_of, new_name_of, part_of, parts_in, rests_of, service_of, service_step, services_of, state_of, target_in, targets_in, version_of}
 pub use Rattle.roman_library.specs.Library.{AreServices, IsLibrary, IsService, PlainLibrary, behaviour_name, service_name}
-pub use Rattle.roman_library.specs.Refusals.{placed, refusal_of}
+pub use Rattle.roman_library.specs.Refusals.{located, refusal_of}
 pub use Rattle.roman_library.specs.declared.library.Service.{Service}
 pub use Rattle.roman_library.specs.declared.refusal.Part.{Part}
 pub use Rattle.roman_library.specs.declared.refusal.Refusal.{Refusal}
@@ -62,7 +62,7 @@ pub use Rattle.roman_document_laws.specs.PartReads.{AreNames, BreaksMove, Breaks
 pub use Rattle.roman_document_laws.specs.PartWriter.{CanList, IsSayableBeh, IsSayableEnv, IsSayableTarget, PartsAreSaid, behaviour_value, environment_value, list_value, move_value, names_value, place_value, places_value, target_value, triple_value}
 pub use Rattle.roman_multi.specs.Combining.{PlainCombined, combined_behaviour, combined_state_names, forbidding, has_repeats, request_names, requests_in, stands_before, target_name}
 unfoldable pub use Rattle.roman_multi.specs.Combining.{combined_parts}
-pub use Rattle.roman_library.proofs.CallerLemmas.{libraries_known, placed_is, targets_combined}
+pub use Rattle.roman_library.proofs.CallerLemmas.{libraries_known, located_is, targets_combined}
 pub use Rattle.roman_library.specs.Targets.{AcceptedNameTargets, NamesTargets, PlainTargets}
 pub use Rattle.roman_multi.proofs.CallerLemmas.{are_allowed}
 pub use Rattle.roman_multi.specs.declared.parts.Named.{Named}

@@ -1,5 +1,5 @@
 -- The lists of a document: their values, and their refusals.
-use Rattle.roman_document_laws.proofs.Common.{◌≡◌, ℕ, ◌≤◌, inl, inr, List, length, codes, Result, Ok, Err, refl, arith, Data, Texts, NamedEnv, NamedBeh, counted_items, PartError, behaviour_in, catalogue_in, service_of, services_of, behaviour_step, service_step, placed, refusal_of, Service, MAX_BEHAVIOURS, MAX_SERVICES, refused_list, BreaksService, ReadsServices, ReadsBehaviours, DocumentListsAreRead, Part, Refusal, same_ok, Refused, kind_of, Count}
+use Rattle.roman_document_laws.proofs.Common.{◌≡◌, ℕ, ◌≤◌, inl, inr, List, length, codes, Result, Ok, Err, refl, arith, Data, Texts, NamedEnv, NamedBeh, counted_items, PartError, behaviour_in, catalogue_in, service_of, services_of, behaviour_step, service_step, located, refusal_of, Service, MAX_BEHAVIOURS, MAX_SERVICES, refused_list, BreaksService, ReadsServices, ReadsBehaviours, DocumentListsAreRead, Part, Refusal, same_ok, Refused, kind_of, Count}
 use Rattle.roman_document_laws.proofs.ListLemmas.{same_err, IsExact, exact_as, exact_same, IsStep, appends, IsListing, list_exact}
 use Rattle.roman_parts.specs.declared.error.List.{List as Place}
 use Rattle.roman_parts.specs.declared.error.List.TheVariants as list
@@ -9,7 +9,7 @@ use Rattle.roman_library.specs.declared.refusal.Part.TheVariants as part
 
 -- an exact reading stays exact with the document and the part in its refusal
 exact_placed : {X : Type 0} (document : List ℕ) (part : Part) (r : Result X PartError) (Is : X → Type 0) (Breaks : PartError → Type 0) → IsExact r Is Breaks →
-    IsExact (placed document part r) Is (λ e. (why : PartError) × Breaks why × (e ≡ refusal_of document part why))
+    IsExact (located document part r) Is (λ e. (why : PartError) × Breaks why × (e ≡ refusal_of document part why))
 exact_placed document part (Ok x) Is Breaks exact = grind (arith, same_ok)
 exact_placed document part (Err why) Is Breaks exact = grind (arith, same_err)
 
@@ -17,9 +17,9 @@ exact_placed document part (Err why) Is Breaks exact = grind (arith, same_err)
 at_most : ℕ → ℕ → Type 0
 at_most most n = n ≤ most
 
-placed_listing : (document name : List ℕ) (place : Place) (most : ℕ) (d : Data) → IsListing name (refused_list document place) (at_most most) d (placed document part.System (counted_items place name 0 most d))
+located_listing : (document name : List ℕ) (place : Place) (most : ℕ) (d : Data) → IsListing name (refused_list document place) (at_most most) d (located document part.System (counted_items place name 0 most d))
 unfolding at_most
-placed_listing document name place most d =
+located_listing document name place most d =
     exact_as _ _ _ _ _ (exact_placed document part.System (counted_items place name 0 most d) _ _ (counted_exact place name 0 most (at_most most) (λ n. (grind arith, grind arith)) d))
     (λ items. (λ h. h, λ h. h)) (λ e. (
       grind arith,
@@ -41,7 +41,7 @@ module _ (document : List ℕ) (version : ℕ) (catalogue : List NamedBeh) where
   unfolding services_of IsServiceItem at_most
   services_read =
       let exact = λ (d : Data). list_exact (service_step document version catalogue) IsServiceItem (BreaksService document version catalogue) services_step (codes "services") (refused_list document list.Services) (at_most MAX_SERVICES) d
-      (placed document part.System (counted_items list.Services (codes "services") 0 MAX_SERVICES d)) (placed_listing document (codes "services") list.Services MAX_SERVICES d) in
+      (located document part.System (counted_items list.Services (codes "services") 0 MAX_SERVICES d)) (located_listing document (codes "services") list.Services MAX_SERVICES d) in
       record { gives = λ d. (exact d).gives; refuses = λ d. (exact d).refuses }
 
 module _ (texts : Texts) (document : List ℕ) (env : NamedEnv) where
@@ -59,7 +59,7 @@ module _ (texts : Texts) (document : List ℕ) (env : NamedEnv) where
   unfolding catalogue_in IsBehaviourItem BreaksBehaviour at_most
   behaviours_read =
       let exact = λ (d : Data). list_exact (behaviour_step texts document env) IsBehaviourItem BreaksBehaviour behaviours_step (codes "behaviours") (refused_list document list.Behaviours) (at_most MAX_BEHAVIOURS) d
-      (placed document part.System (counted_items list.Behaviours (codes "behaviours") 0 MAX_BEHAVIOURS d)) (placed_listing document (codes "behaviours") list.Behaviours MAX_BEHAVIOURS d) in
+      (located document part.System (counted_items list.Behaviours (codes "behaviours") 0 MAX_BEHAVIOURS d)) (located_listing document (codes "behaviours") list.Behaviours MAX_BEHAVIOURS d) in
       record { gives = λ d. (exact d).gives; refuses = λ d. (exact d).refuses }
 
 pub document_lists_read : DocumentListsAreRead

@@ -1,5 +1,5 @@
 -- The written value of a library means that library.
-use Rattle.roman_document_laws.proofs.Common.{AreItems, AreServices, Bool, Data, HasNoRepeats, IfSome, IsFalse, IsIn, IsSayableBeh, IsSayableEnv, IsSayableTarget, IsService, IsTrue, LibrariesAreSaid, List, MAX_BEHAVIOURS, MAX_CELLS, MAX_SERVICES, NamedBeh, NamedEnv, Ok, Option, PlainLibrary, Service, Some, Texts, [], and_from, ap, arith, behaviour_in, behaviour_name, behaviour_place, behaviour_value, catalogue_in, catalogue_states, codes, environment_in, environment_value, file_of, from_push, frozen_of, get_in, in_contains, in_map, inl, is_name, le-leb, length, length-map, library_in, library_value, limit_in, limit_of, list_value, listed_in, map, map_push, member_of, new_behaviour_of, new_name_of, number, part_of, parts_in, place_in, place_value, placed, refl, rests_of, service_name, service_of, service_value, services_of, slice_get, state_of, subst, suc, sym, target_in, there_is, unsigned, version_of, zero, ℕ, ◌++◌, ◌<◌, ◌==◌, ◌∷◌, ◌≡◌, ◌≤◌}
+use Rattle.roman_document_laws.proofs.Common.{AreItems, AreServices, Bool, Data, HasNoRepeats, IfSome, IsFalse, IsIn, IsSayableBeh, IsSayableEnv, IsSayableTarget, IsService, IsTrue, LibrariesAreSaid, List, MAX_BEHAVIOURS, MAX_CELLS, MAX_SERVICES, NamedBeh, NamedEnv, Ok, Option, PlainLibrary, Service, Some, Texts, [], and_from, ap, arith, behaviour_in, behaviour_name, behaviour_place, behaviour_value, catalogue_in, catalogue_states, codes, environment_in, environment_value, file_of, from_push, frozen_of, get_in, in_contains, in_map, inl, is_name, le-leb, length, length-map, library_in, library_value, limit_in, limit_of, list_value, listed_in, map, map_push, member_of, new_behaviour_of, new_name_of, number, part_of, parts_in, place_in, place_value, located, refl, rests_of, service_name, service_of, service_value, services_of, slice_get, state_of, subst, suc, sym, target_in, there_is, unsigned, version_of, zero, ℕ, ◌++◌, ◌<◌, ◌==◌, ◌∷◌, ◌≡◌, ◌≤◌}
 use Rattle.roman_parts.specs.declared.error.List.TheVariants as list
 use Rattle.roman_document_laws.proofs.PartReadLemmas.{place_exact, absent_none}
 use Rattle.roman_document_laws.proofs.PartWriterLemmas.{is_place, name_said, parts_said}
@@ -10,12 +10,12 @@ use Rattle.roman_document_laws.proofs.DocumentReadLemmas.{document_lists_read}
 
 pub environment_said : (texts : Texts) (document : List ℕ) (env : NamedEnv) (d : Data) → member_of d (codes "environment") ≡ Ok (environment_value env) → IsSayableEnv env → environment_in texts document d ≡ Ok env
 unfolding environment_in part_of file_of
-environment_said texts document env d at is = rw at (ap (placed document part.Environment) (parts_said.environment env is))
+environment_said texts document env d at is = rw at (ap (located document part.Environment) (parts_said.environment env is))
 
 target_said : (texts : Texts) (document : List ℕ) (library : PlainLibrary) → IsSayableEnv library.environment → IsSayableTarget library.environment library.target →
     target_in texts document library.environment (library_value library) ≡ Ok library.target
 unfolding target_in part_of file_of
-target_said texts document library env is = ap (placed document (part.Target 0)) (parts_said.target library.environment library.target env is)
+target_said texts document library env is = ap (located document (part.Target 0)) (parts_said.target library.environment library.target env is)
 
 -- in version 2 the parts are the written ones
 said_as_they_stand : (texts : Texts) (document : List ℕ) (library : PlainLibrary) → IsSayableEnv library.environment → IsSayableTarget library.environment library.target →
@@ -30,7 +30,7 @@ behaviour_said : (texts : Texts) (document : List ℕ) (env : NamedEnv) (before 
     behaviour_in texts document env before i (behaviour_value env b) ≡ Ok b
 unfolding listed_in part_of file_of new_behaviour_of new_name_of
 behaviour_said texts document env before i b env_is is new =
-    rw (name_said (behaviour_value env b) b.name refl is.name, absent_none (map behaviour_name before) b.name new) (ap (placed document (part.Behaviour i)) (parts_said.behaviour env b env_is is))
+    rw (name_said (behaviour_value env b) b.name refl is.name, absent_none (map behaviour_name before) b.name new) (ap (located document (part.Behaviour i)) (parts_said.behaviour env b env_is is))
 
 are_behaviours : (texts : Texts) (document : List ℕ) (env : NamedEnv) (before xs : List NamedBeh) → IsSayableEnv env → ((b : NamedBeh) → IsIn b xs → IsSayableBeh env b) → HasNoRepeats (map behaviour_name xs) →
     ((b : NamedBeh) → IsIn b xs → IsIn b.name (map behaviour_name before) → ⊥) →

@@ -1,5 +1,5 @@
 -- Documents with several targets: parts that were read can be stated, and the written value means the library that combines the targets.
-use Rattle.roman_document_laws.proofs.Common.{AcceptedSeveralCanBeSaid, AreItems, AreSayable, Data, Err, HasNoRepeats, IsIn, IsSayableEnv, IsSayableTarget, IsTrue, List, MAX_BEHAVIOURS, Named, NamedBeh, NamedEnv, None, Ok, PlainCombined, PlainLibrary, PlainTargets, Refusal, Service, SeveralAreSaid, Texts, [], ap, arith, as_object, bind_ok, check, check_is, codes, combined_behaviour, combined_of, combined_parts, counted_items, each_item, file_of, forbidding, from_map, from_push, in_append_left, in_map, in_push, inl, inr, is_name, is_none, is_some, items_of, length, length-map, libraries_known, library_in, list_value, listed_in, map, map_push, member_of, name_of, named_target_of, named_target_value, new_name_of, none_absent, none_is, part_of, parts_in, place_of, placed, placed_is, refl, requests_in, same_ok, several_value, subst, sym, target_name, target_of, target_step, targets_combined, targets_in, version_of, ℕ, ◌++◌, ◌↔◌, ◌∷◌, ◌≡◌, ◌≤◌}
+use Rattle.roman_document_laws.proofs.Common.{AcceptedSeveralCanBeSaid, AreItems, AreSayable, Data, Err, HasNoRepeats, IsIn, IsSayableEnv, IsSayableTarget, IsTrue, List, MAX_BEHAVIOURS, Named, NamedBeh, NamedEnv, None, Ok, PlainCombined, PlainLibrary, PlainTargets, Refusal, Service, SeveralAreSaid, Texts, [], ap, arith, as_object, bind_ok, check, check_is, codes, combined_behaviour, combined_of, combined_parts, counted_items, each_item, file_of, forbidding, from_map, from_push, in_append_left, in_map, in_push, inl, inr, is_name, is_none, is_some, items_of, length, length-map, libraries_known, library_in, list_value, listed_in, map, map_push, member_of, name_of, named_target_of, named_target_value, new_name_of, none_absent, none_is, part_of, parts_in, place_of, located, located_is, refl, requests_in, same_ok, several_value, subst, sym, target_name, target_of, target_step, targets_combined, targets_in, version_of, ℕ, ◌++◌, ◌↔◌, ◌∷◌, ◌≡◌, ◌≤◌}
 use Rattle.roman_library.specs.Documents.{listed_step}
 use Rattle.roman_read.specs.declared.rules.Kind.TheVariants as kind
 use Rattle.roman_parts.specs.declared.error.List.TheVariants as list
@@ -60,7 +60,7 @@ module _ (texts : Texts) (document : List ℕ) (env : NamedEnv) where
   unfolding IsTargetItem listed_in named_target_of new_name_of
   target_item_can before d x h =
       let (p, e, h1) = bind_ok (part_of texts document (part.Target (length before)) d) _ x h in
-      let (name, e1, h2) = bind_ok (new_name_of (map target_name before) p.1) _ x (placed_is p.0 (part.Target (length before)) (named_target_of env before p.1) x h1) in
+      let (name, e1, h2) = bind_ok (new_name_of (map target_name before) p.1) _ x (located_is p.0 (part.Target (length before)) (named_target_of env before p.1) x h1) in
       let (target, e2, h3) = bind_ok (target_of env p.1) _ x h2 in
       let (whole, e3, h4) = bind_ok (check (is_some (as_object p.1)) kind.Form list.Whole 0 p.1) _ name e1 in
       let (raw, e4, h5) = bind_ok (name_of whole) _ name h4 in
@@ -86,7 +86,7 @@ module _ (texts : Texts) (document : List ℕ) (env : NamedEnv) where
   pub targets_can : (targets : List Named) (d : Data) → targets_in texts document env d ≡ Ok targets → ((named : Named) → IsIn named targets → IsTrue (is_name named.name) × IsSayableTarget env named.target) × HasNoRepeats (map target_name targets)
   unfolding targets_in
   targets_can targets d h =
-      let (items, e, h1) = bind_ok (placed document part.System (counted_items list.Targets (codes "targets") 2 4 d)) _ targets h in
+      let (items, e, h1) = bind_ok (located document part.System (counted_items list.Targets (codes "targets") 2 4 d)) _ targets h in
       let are = (targets_each (listed items) targets).0 (rw items_listed h1) in (
         items_each IsTargetItem (λ x. IsTrue (is_name x.name) × IsSayableTarget env x.target) (λ before d x is. (target_item_can before d x is).0) [] (listed items) targets are,
         (new_after [] (listed items) targets are).0,

@@ -60,8 +60,8 @@ pub use Rattle.roman_session.specs.declared.next.Next.{Next}
 pub use Rattle.roman_session.specs.declared.next.Next.TheVariants.{More, Quit}
 pub use Rattle.roman_session.specs.declared.phase.Phase.{Phase}
 pub use Rattle.roman_session.specs.declared.phase.Phase.TheVariants.{Delegated, Idle, Offered}
-pub use Rattle.roman_text.proofs.CallerLemmas.{Gathered-empty, Gathered-put, Gathered-then, WrotePrefix-gathered, ended_lines-append, ended_lines-newline, ended_lines-part, kept-again, kept-append, kept-nil, lines_are, lines_none, lines_only, lines_rest, unfinished-newline, unfinished-nil, unfinished-part}
-pub use Rattle.roman_text.specs.Lines.{kept, unfinished}
+pub use Rattle.roman_text.proofs.CallerLemmas.{Gathered-empty, Gathered-put, Gathered-then, WrotePrefix-gathered, ended_lines-append, ended_lines-newline, ended_lines-part, line_head-again, line_head-append, line_head-nil, lines_are, lines_none, lines_only, lines_rest, unfinished-newline, unfinished-nil, unfinished-part}
+pub use Rattle.roman_text.specs.Lines.{line_head, unfinished}
 pub use Rattle.roman_text.specs.Replies.{reply_text}
 pub use Rattle.roman_text.specs.Shapes.{LineShape, abort, by_words, delegate, die, explain, freeze, is_comment, join, jump, jump_env, nothing, observe, quit, report, request, shape_of_words, spelling, thaw, words_of}
 unfoldable pub use Rattle.roman_text.specs.Shapes.{shape_of}

@@ -1,5 +1,5 @@
 -- How a session that is read from a source ends.
-use Rattle.roman_hearing.proofs.Common.{◌≡◌, ℕ, ◌+◌, ◌<◌, ◌≤◌, false, List, [], ◌∷◌, ◌++◌, length, take, drop, nat_le, Option, Result, Ok, Err, IsTrue, refl, sym, ap, ◌∙◌, subst, arith, append_assoc, append-nil, length-append, take-append-drop, ◌-◌, ltb, OnOk, IsErrOf, length-take, take_at, le-leb, cond-true, cond-false, or_from, or_left, or_right, lt-leb, Gave, GaveAtMost, EndsAt, Had, Gave-then, gave_at_most, WrotePrefix-append, had_more, had_all, lines, ended_lines, text_of_lines, MAX_SESSION_BYTES, by_test, unfinished, kept, lines_none, kept-nil, lines_are, lines_only, Situation, Told, AreNamed, has_quit, is_heard_out, heard_lines, Tells, TellsPrefix, prefix_of, GaveQuit, StreamState, IsHeardOut, IsCutOff, StopsShort, TellsPrefixOfAll, reader_state, IsHearing, StopsAtQuit, FallsShort, FailsIn, HearsPiece, HearsRest, HearError, ReadFault, WriteFault, TooLong, take_past}
+use Rattle.roman_hearing.proofs.Common.{◌≡◌, ℕ, ◌+◌, ◌<◌, ◌≤◌, false, List, [], ◌∷◌, ◌++◌, length, take, drop, nat_le, Option, Result, Ok, Err, IsTrue, refl, sym, ap, ◌∙◌, subst, arith, append_assoc, append-nil, length-append, take-append-drop, ◌-◌, ltb, OnOk, IsErrOf, length-take, take_at, le-leb, cond-true, cond-false, or_from, or_left, or_right, lt-leb, Gave, GaveAtMost, EndsAt, Had, Gave-then, gave_at_most, WrotePrefix-append, had_more, had_all, lines, ended_lines, text_of_lines, MAX_SESSION_BYTES, by_test, unfinished, line_head, lines_none, line_head-nil, lines_are, lines_only, Situation, Told, AreNamed, has_quit, is_heard_out, heard_lines, Tells, TellsPrefix, prefix_of, GaveQuit, StreamState, IsHeardOut, IsCutOff, StopsShort, TellsPrefixOfAll, reader_state, IsHearing, StopsAtQuit, FallsShort, FailsIn, HearsPiece, HearsRest, HearError, ReadFault, WriteFault, TooLong, take_past}
 use Rattle.roman_hearing.proofs.HearingLines.{ended_more, lines_more, quit_left, told_stops}
 use Rattle.roman_hearing.proofs.HearingSteps.{told_more}
 use Rattle.roman_hearing.proofs.HearingLemmas.{whole_told}
@@ -82,7 +82,7 @@ whole_lines : (bytes : List ℕ) → (ended_lines (text_of_lines (ended_lines by
 whole_lines bytes =
     let ls : List (List ℕ) = ended_lines bytes in
     let (ended, none) = lines_only (text_of_lines ls) ls [] (record { whole = sym (append-nil (text_of_lines ls)); each = (lines_are bytes).each; last = refl }) in
-    let empty : ltb 0 (length (kept (unfinished (text_of_lines ls)))) ≡ false = ap (λ (rest : List ℕ). ltb 0 (length (kept rest))) (sym none) ∙ ap (λ (rest : List ℕ). ltb 0 (length rest)) kept-nil in
+    let empty : ltb 0 (length (line_head (unfinished (text_of_lines ls)))) ≡ false = ap (λ (rest : List ℕ). ltb 0 (length (line_head rest))) (sym none) ∙ ap (λ (rest : List ℕ). ltb 0 (length rest)) line_head-nil in
     (sym ended, lines_none (text_of_lines ls) empty ∙ sym ended)
 
 -- ---- within a piece

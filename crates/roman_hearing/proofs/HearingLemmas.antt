@@ -1,5 +1,5 @@
 -- Bytes that are read one after another.
-use Rattle.roman_hearing.proofs.Common.{◌≡◌, ℕ, ◌<◌, ◌≤◌, true, false, List, [], ◌∷◌, ◌++◌, length, take, nat_lt, Option, Result, Ok, Err, IsTrue, IsFalse, refl, sym, ap, ap₂, ◌∙◌, subst, arith, append_assoc, append-nil, min, IfOk, cond-true, cond-false, kept-nil, lines_rest, lines_none, kept-again, Gathered-empty, Gathered-then, Gathered-put, WrotePrefix-gathered, ended_lines-newline, ended_lines-part, unfinished-newline, unfinished-nil, unfinished-part, kept-append, lines, ended_lines, IsLine, by_test, unfinished, kept, shape_of, Situation, IsSituation, Step, Next, ends_session, has_quit, cursor, Tells, TellsPrefix, Cursor, reader_state, IsHearing, StopsAtQuit, FallsShort, FailsIn, TellsOnPage, HearsBytes, nil_from_length, take_all, take_min, Wrote, WrotePrefix, Failed, Wrote-then, WrotePrefix-after, AnsweredOn, next_of, More, Quit, HearsPiece, ReaderState, TooLong}
+use Rattle.roman_hearing.proofs.Common.{◌≡◌, ℕ, ◌<◌, ◌≤◌, true, false, List, [], ◌∷◌, ◌++◌, length, take, nat_lt, Option, Result, Ok, Err, IsTrue, IsFalse, refl, sym, ap, ap₂, ◌∙◌, subst, arith, append_assoc, append-nil, min, IfOk, cond-true, cond-false, line_head-nil, lines_rest, lines_none, line_head-again, Gathered-empty, Gathered-then, Gathered-put, WrotePrefix-gathered, ended_lines-newline, ended_lines-part, unfinished-newline, unfinished-nil, unfinished-part, line_head-append, lines, ended_lines, IsLine, by_test, unfinished, line_head, shape_of, Situation, IsSituation, Step, Next, ends_session, has_quit, cursor, Tells, TellsPrefix, Cursor, reader_state, IsHearing, StopsAtQuit, FallsShort, FailsIn, TellsOnPage, HearsBytes, nil_from_length, take_all, take_min, Wrote, WrotePrefix, Failed, Wrote-then, WrotePrefix-after, AnsweredOn, next_of, More, Quit, HearsPiece, ReaderState, TooLong}
 use Rattle.roman_hearing.proofs.HearingLines.{quit_last, quitless_last, told_push}
 
 -- ---- one line
@@ -51,24 +51,24 @@ put_prefix old mid wrote now ls page tells prefix = grind (arith, WrotePrefix-af
 
 -- the reader state before the first byte
 pub hearing_starts : (s : Situation) (told : Option (List ℕ)) (page held : List ℕ) → page ≡ [] → held ≡ [] → IsHearing (cursor s told) [] (reader_state s told page held)
-hearing_starts s told page held none empty = grind (arith, Gathered-empty, kept-nil, unfinished-nil)
+hearing_starts s told page held none empty = grind (arith, Gathered-empty, line_head-nil, unfinished-nil)
 
 module _ (old : Cursor) (taken : List ℕ) (mid : ReaderState) (part : List ℕ) (is : IsHearing old taken mid) (within : IsLine part) where
   -- the held bytes of a line and more bytes decide the new held bytes
-  part_kept : kept (mid.held ++ part) ≡ kept (unfinished taken ++ part)
-  part_kept = ap (λ (held : List ℕ). kept (held ++ part)) is.rest ∙ kept-append (unfinished taken) part
+  part_head : line_head (mid.held ++ part) ≡ line_head (unfinished taken ++ part)
+  part_head = ap (λ (held : List ℕ). line_head (held ++ part)) is.rest ∙ line_head-append (unfinished taken) part
 
   -- if no bytes are held, the new bytes begin the line
-  pub alone_kept : nat_lt 0 (length mid.held) ≡ false → (mid.held ≡ []) × (kept part ≡ kept (unfinished taken ++ part))
-  alone_kept none = grind (arith, nil_from_length, part_kept)
+  pub alone_head : nat_lt 0 (length mid.held) ≡ false → (mid.held ≡ []) × (line_head part ≡ line_head (unfinished taken ++ part))
+  alone_head none = grind (arith, nil_from_length, part_head)
 
   -- the held bytes with the new ones are those of the line so far
-  pub more_kept : (line : List ℕ) → line ≡ kept (mid.held ++ part) → kept line ≡ kept (unfinished taken ++ part)
-  more_kept line e = kept-again line (unfinished taken ++ part) (e ∙ part_kept)
+  pub more_head : (line : List ℕ) → line ≡ line_head (mid.held ++ part) → line_head line ≡ line_head (unfinished taken ++ part)
+  more_head line e = line_head-again line (unfinished taken ++ part) (e ∙ part_head)
 
   -- the reader state after more bytes of a line
-  pub hears_part : (after : List ℕ) → after ≡ kept (mid.held ++ part) → IsHearing old (taken ++ part) (record mid { held = after })
-  hears_part after e = grind (arith, ended_lines-part, part_kept, unfinished-part)
+  pub hears_part : (after : List ℕ) → after ≡ line_head (mid.held ++ part) → IsHearing old (taken ++ part) (record mid { held = after })
+  hears_part after e = grind (arith, ended_lines-part, part_head, unfinished-part)
 
   ended : ended_lines (taken ++ part ++ 10 ∷ []) ≡ ended_lines taken ++ (unfinished taken ++ part) ∷ []
   ended = ended_lines-newline (taken ++ part) 10 refl ∙ ap₂ (λ (ls : List (List ℕ)) (line : List ℕ). ls ++ line ∷ []) (ended_lines-part taken part within) (unfinished-part taken part within)
@@ -81,7 +81,7 @@ module _ (old : Cursor) (taken : List ℕ) (mid : ReaderState) (part : List ℕ)
       subst (λ (bytes : List ℕ). IsHearing old bytes (reader_state new now holds after)) (append_assoc taken part (10 ∷ [])) record {
         quitless = rw ended (quitless_last (ended_lines taken) (unfinished taken ++ part) is.quitless (next_more (unfinished taken ++ part) next));
         tells = rw ended (answered_more old _ new _ _ _ now _ holds More is.quitless is.tells answered);
-        rest = empty ∙ sym (ap kept (unfinished-newline (taken ++ part) 10 refl) ∙ kept-nil);
+        rest = empty ∙ sym (ap line_head (unfinished-newline (taken ++ part) 10 refl) ∙ line_head-nil);
       }
   hears_ended new now holds after (Ok Quit) empty answered next known = record {
     heard = part;

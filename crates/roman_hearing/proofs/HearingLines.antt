@@ -1,5 +1,5 @@
 -- The replies to consecutive lines, up to the first line that ends the session.
-use Rattle.roman_hearing.proofs.Common.{◌≡◌, ℕ, false, List, [], ◌∷◌, ◌++◌, length, take, drop, nat_lt, nat_le, IsTrue, IsFalse, refl, sym, ap, ◌∙◌, subst, append_assoc, append-nil, take-append-drop, arith, if◌then◌else◌, cond-true, cond-false, or_parts, or_from, or_left, or_right, lines, ended_lines, by_test, unfinished, kept, lines_rest, lines_none, ended_lines-append, Situation, Step, until_quit, Answers, Told, MAX_SESSION_BYTES, ends_session, has_quit, is_heard_out, heard_lines, list_any-append}
+use Rattle.roman_hearing.proofs.Common.{◌≡◌, ℕ, false, List, [], ◌∷◌, ◌++◌, length, take, drop, nat_lt, nat_le, IsTrue, IsFalse, refl, sym, ap, ◌∙◌, subst, append_assoc, append-nil, take-append-drop, arith, if◌then◌else◌, cond-true, cond-false, or_parts, or_from, or_left, or_right, lines, ended_lines, by_test, unfinished, line_head, lines_rest, lines_none, ended_lines-append, Situation, Step, until_quit, Answers, Told, MAX_SESSION_BYTES, ends_session, has_quit, is_heard_out, heard_lines, list_any-append}
 
 -- ---- lines of bytes with more bytes after them
 
@@ -10,7 +10,7 @@ ended_more xs ys = (ended_lines (unfinished xs ++ ys), ended_lines-append xs ys)
 -- the lines of some bytes begin with the whole ones
 pub lines_more : (bytes : List ℕ) → (more : List (List ℕ)) × (lines bytes ≡ ended_lines bytes ++ more)
 lines_more bytes =
-    by_test (nat_lt 0 (length (kept (unfinished bytes)))) (λ some. (unfinished bytes ∷ [], lines_rest bytes some))
+    by_test (nat_lt 0 (length (line_head (unfinished bytes)))) (λ some. (unfinished bytes ∷ [], lines_rest bytes some))
     (λ none. ([], lines_none bytes none ∙ sym (append-nil (ended_lines bytes))))
 
 -- ---- lines that end the session

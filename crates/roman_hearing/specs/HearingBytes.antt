@@ -2,7 +2,7 @@
 use Rattle.std.specs.Prelude.{◌≡◌, ℕ, ◌<◌, ◌≤◌, List, [], ◌∷◌, ◌++◌, length, take, Option, Result, Ok, Err, IsTrue, IsFalse}
 use Rattle.roman_io.specs.declared.failed.Failed.{Failed}
 use Rattle.roman_model.specs.Lines.{lines, ended_lines}
-use Rattle.roman_text.specs.Lines.{unfinished, kept}
+use Rattle.roman_text.specs.Lines.{unfinished, line_head}
 use Rattle.roman_text.specs.Pages.{Gathered}
 use Rattle.roman_session.specs.Situations.{Situation, IsSituation}
 use Rattle.roman_session.specs.declared.next.Next.{Next}
@@ -33,7 +33,7 @@ pub record TellsOnPage (old : Cursor) (lines : List (List ℕ)) (new : Cursor) (
 pub record IsHearing (old : Cursor) (taken : List ℕ) (new : ReaderState) : Type 0 where
   pub quitless : IsFalse (has_quit (ended_lines taken))
   pub tells : TellsOnPage old (ended_lines taken) new.cursor new.page
-  pub rest : new.held ≡ kept (unfinished taken)
+  pub rest : new.held ≡ line_head (unfinished taken)
 
 -- a first line `quit` ends in the piece after these bytes, and it is answered
 pub record StopsAtQuit (old : Cursor) (taken piece : List ℕ) (new : Cursor) (page : List ℕ) : Type 0 where

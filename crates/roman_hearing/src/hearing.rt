@@ -3,7 +3,7 @@ ghost use Rattle.std.specs.Prelude.{◌≡◌, ℕ, ◌+◌, ◌-◌, ◌⊎◌,
 ghost use Rattle.roman_io.specs.Faults.{HasCause};
 ghost use Rattle.roman_io.specs.Source.{IsAtEnd, GaveAtMost};
 ghost use Rattle.roman_model.specs.Lines.{IsLine};
-ghost use Rattle.roman_text.specs.Lines.{kept};
+ghost use Rattle.roman_text.specs.Lines.{line_head};
 ghost use Rattle.roman_session.specs.Situations.{IsSituation};
 ghost use Rattle.roman_session.specs.Answering.{AnsweredOn, next_of};
 ghost use Rattle.roman_hearing.specs.Known.{AreBehaviours};
@@ -223,9 +223,10 @@ fn hear_line<O: Sink, L: Ledger>(
     out: &mut O,
     steps: &mut Steps<L>,
 ) -> Result<Next, Failed>
-    ensures step { (whole : List ℕ) → kept line.now ≡ kept whole →
+    ensures step { (whole : List ℕ) → line_head line.now ≡ line_head whole →
         AnsweredOn session.old whole session.new (O.written out.old) (O.written out.new) page.old page.new result }
-    ensures next { (whole : List ℕ) → kept line.now ≡ kept whole → IfOk result (λ next. next ≡ next_of whole) }
+    ensures next { (whole : List ℕ) → line_head line.now ≡ line_head whole →
+        IfOk result (λ next. next ≡ next_of whole) }
     ensures known { IsSituation session.new }
     ensures cause { HasCause (O.faults out.old) (O.faults out.new) result }
 {

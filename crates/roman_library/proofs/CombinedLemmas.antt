@@ -1,7 +1,7 @@
 -- The library of a document with several targets combines them.
 use Rattle.roman_library.proofs.Common.{List, None, Ok, ap, arith, subst, sym, ℕ, ◌∙◌, ◌≡◌, Texts, PlainCombined, forbidding, combined_parts, Named, NamedBeh, NamedEnv, bind_ok, same_ok, Data, value_at, version_of, catalogue_in, combined_of, environment_in, library_in, library_of, parts_in, services_of, targets_in, PlainLibrary, AcceptedNameTargets, CombinesTargets, TargetsAreCombined}
 use Rattle.roman_library.specs.declared.refusal.Part.TheVariants as part
-use Rattle.roman_library.proofs.KnownLemmas.{placed_is, environment_in_known, catalogue_known, services_known, targets_in_known}
+use Rattle.roman_library.proofs.KnownLemmas.{located_is, environment_in_known, catalogue_known, services_known, targets_in_known}
 
 -- the parts that were read of a document with several targets
 record IsRead (texts : Texts) (document : List ℕ) (value : Data) (library : PlainLibrary) : Type 0 where
@@ -16,7 +16,7 @@ record IsRead (texts : Texts) (document : List ℕ) (value : Data) (library : Pl
 
 is_read : (texts : Texts) (document : List ℕ) (value : Data) (library : PlainLibrary) → library_in texts document value ≡ Ok library → version_of value ≡ Ok 3 → IsRead texts document value library
 unfolding library_in parts_in
-is_read texts document value library h third = grind (arith, bind_ok, placed_is, same_ok)
+is_read texts document value library h third = grind (arith, bind_ok, located_is, same_ok)
 
 -- the result is made from the parts, and no rule forbids it
 record IsMade (env : NamedEnv) (catalogue : List NamedBeh) (targets : List Named) (made : PlainCombined) : Type 0 where

@@ -18,7 +18,7 @@ pub use Rattle.roman_model.specs.System.{IsEnv}
 pub use Rattle.roman_model.specs.declared.limits.TheConstants.{MAX_BEHAVIOURS, MAX_CELLS, MAX_SERVICES}
 pub use Rattle.roman_model.specs.declared.request.Request.{Request}
 pub use Rattle.roman_multi.proofs.CallerLemmas.{combined_behaviour_over, combined_is_system, combined_target_over, request_count, state_count}
-pub use Rattle.roman_multi.specs.Combining.{KeepsRules, PlainCombined, combined_behaviour, forbidding, requests_in, target_name}
+pub use Rattle.roman_multi.specs.Combining.{ObeysRules, PlainCombined, combined_behaviour, forbidding, requests_in, target_name}
 unfoldable pub use Rattle.roman_multi.specs.Combining.{combined_parts}
 pub use Rattle.roman_multi.specs.declared.error.CombineError.{CombineError}
 pub use Rattle.roman_multi.specs.declared.parts.Combined.{Combined}
@@ -41,7 +41,7 @@ pub use Rattle.roman_library.specs.Documents.{PartAt, ReadAfter, behaviour_place
 unfoldable pub use Rattle.roman_library.specs.Documents.{catalogue_in, combined_of, environment_in, library_in, library_of, limit_in, limit_of, listed_in, listed_step, named_target_of, new_behaviour_of, new_name_of, parts_in, service_of, service_step, services_of, state_of, target_in, targets_in}
 pub use Rattle.roman_library.specs.Known.{IsKnownLibrary, LibrariesAreKnown}
 pub use Rattle.roman_library.specs.Library.{ArePartsOf, AreServices, IsCatalogue, IsService, PlainLibrary, behaviour_name, service_name}
-pub use Rattle.roman_library.specs.Refusals.{Loads, Places, Stops, placed}
+pub use Rattle.roman_library.specs.Refusals.{Loads, Locates, Stops, located}
 pub use Rattle.roman_library.specs.Targets.{AcceptedNameTargets, CombinesTargets, TargetsAreCombined}
 pub use Rattle.roman_library.specs.declared.library.Service.{Service}
 pub use Rattle.roman_library.specs.declared.refusal.LoadError.{LoadError}

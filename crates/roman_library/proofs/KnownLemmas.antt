@@ -1,5 +1,5 @@
 -- Each accepted document means a well-formed library.
-use Rattle.roman_library.proofs.Common.{All, Bool, Err, IfSome, List, None, Ok, Option, Result, Some, [], ap, arith, codes, cond, false, length, length-append, map, refl, slice_get, subst, sym, true, ℕ, ◌++◌, ◌+◌, ◌<◌, ◌==◌, ◌∷◌, ◌≡◌, ◌≤◌, and_parts, All-get_or, All-push, get_or_from_slice_get, slice_get_within, Texts, MAX_BEHAVIOURS, MAX_CELLS, MAX_SERVICES, request_count, PlainCombined, forbidding, target_name, combined_parts, Named, IsEnvironment, IsOver-start, check_is, counted_are, environment_known, found_is, none_is, place_below, target_known, IsBehaviour, IsTarget, NamedBeh, NamedEnv, NamedTarget, environment_of, name_of, target_of, counted_items, found, looked, PartError, bind_ok, same_ok, ◌>>=◌, each_item, member_of, place_of, Data, Items, item, no_items, items_len, PartAt, ReadAfter, behaviour_place, frozen_of, part_of, rests_of, value_at, version_of, catalogue_in, combined_of, environment_in, library_in, library_of, limit_in, limit_of, listed_in, listed_step, named_target_of, new_behaviour_of, new_name_of, parts_in, service_of, service_step, services_of, state_of, target_in, targets_in, IsKnownLibrary, LibrariesAreKnown, ArePartsOf, AreServices, IsCatalogue, PlainLibrary, behaviour_name, service_name, placed, Service, Part, Refusal}
+use Rattle.roman_library.proofs.Common.{All, Bool, Err, IfSome, List, None, Ok, Option, Result, Some, [], ap, arith, codes, cond, false, length, length-append, map, refl, slice_get, subst, sym, true, ℕ, ◌++◌, ◌+◌, ◌<◌, ◌==◌, ◌∷◌, ◌≡◌, ◌≤◌, and_parts, All-get_or, All-push, get_or_from_slice_get, slice_get_within, Texts, MAX_BEHAVIOURS, MAX_CELLS, MAX_SERVICES, request_count, PlainCombined, forbidding, target_name, combined_parts, Named, IsEnvironment, IsOver-start, check_is, counted_are, environment_known, found_is, none_is, place_below, target_known, IsBehaviour, IsTarget, NamedBeh, NamedEnv, NamedTarget, environment_of, name_of, target_of, counted_items, found, looked, PartError, bind_ok, same_ok, ◌>>=◌, each_item, member_of, place_of, Data, Items, item, no_items, items_len, PartAt, ReadAfter, behaviour_place, frozen_of, part_of, rests_of, value_at, version_of, catalogue_in, combined_of, environment_in, library_in, library_of, limit_in, limit_of, listed_in, listed_step, named_target_of, new_behaviour_of, new_name_of, parts_in, service_of, service_step, services_of, state_of, target_in, targets_in, IsKnownLibrary, LibrariesAreKnown, ArePartsOf, AreServices, IsCatalogue, PlainLibrary, behaviour_name, service_name, located, Service, Part, Refusal}
 use Rattle.roman_read.specs.declared.rules.Kind.TheVariants as kind
 use Rattle.roman_parts.specs.declared.error.List.TheVariants as list
 use Rattle.roman_library.proofs.TargetLemmas.{combined_parts_known}
@@ -7,9 +7,9 @@ use Rattle.roman_library.specs.declared.refusal.Part.TheVariants as part
 use Rattle.roman_library.proofs.LibraryLemmas.{no_behaviours, behaviour_pushed, AreServices-push}
 
 -- a reading that succeeds gives the same value with its document and part
-pub placed_is : {X : Type 0} (document : List ℕ) (part : Part) (r : Result X PartError) (x : X) → placed document part r ≡ Ok x → r ≡ Ok x
-placed_is document part (Ok y) x h = ap Ok (same_ok y x h)
-placed_is document part (Err e) x h = cc
+pub located_is : {X : Type 0} (document : List ℕ) (part : Part) (r : Result X PartError) (x : X) → located document part r ≡ Ok x → r ≡ Ok x
+located_is document part (Ok y) x h = ap Ok (same_ok y x h)
+located_is document part (Err e) x h = cc
 
 -- The catalogue
 
@@ -39,7 +39,7 @@ module _ {X : Type 0} (step : ℕ → List X → Data → Result (List X) Refusa
 listed_grow : {X : Type 0} (at : PartAt) (read : ReadAfter X) (env : NamedEnv) (Keeps : List X → Type 0) (keeps : (before : List X) (d : Data) (x : X) → read env before d ≡ Ok x → Keeps before → Keeps (before ++ x ∷ []))
     (texts : Texts) (document : List ℕ) (i : ℕ) (before : List X) (d : Data) (more : List X) → listed_step at read texts document env i before d ≡ Ok more → Keeps before → Grown Keeps more (length before + 1)
 unfolding listed_step listed_in
-listed_grow at read env Keeps keeps texts document i before d more h are = grind (arith, bind_ok, placed_is, same_ok, length-append, keeps before)
+listed_grow at read env Keeps keeps texts document i before d more h are = grind (arith, bind_ok, located_is, same_ok, length-append, keeps before)
 
 behaviours_grow : (env : NamedEnv) (before : List NamedBeh) (d : Data) (b : NamedBeh) → new_behaviour_of env before d ≡ Ok b → IsCatalogue env before → IsCatalogue env (before ++ b ∷ [])
 unfolding new_behaviour_of
@@ -51,8 +51,8 @@ behaviours_grow env before d b h are =
 pub catalogue_known : (texts : Texts) (document : List ℕ) (env : NamedEnv) (d : Data) (out : List NamedBeh) → catalogue_in texts document env d ≡ Ok out → IsCatalogue env out × (length out ≤ MAX_BEHAVIOURS)
 unfolding catalogue_in
 catalogue_known texts document env d out h =
-    let (items, e, h1) = bind_ok (placed document part.System (counted_items list.Behaviours (codes "behaviours") 0 MAX_BEHAVIOURS d)) _ out h in
-    let few = counted_are list.Behaviours (codes "behaviours") 0 MAX_BEHAVIOURS d items (placed_is document part.System (counted_items list.Behaviours (codes "behaviours") 0 MAX_BEHAVIOURS d) items e) in
+    let (items, e, h1) = bind_ok (located document part.System (counted_items list.Behaviours (codes "behaviours") 0 MAX_BEHAVIOURS d)) _ out h in
+    let few = counted_are list.Behaviours (codes "behaviours") 0 MAX_BEHAVIOURS d items (located_is document part.System (counted_items list.Behaviours (codes "behaviours") 0 MAX_BEHAVIOURS d) items e) in
     let all = parts_grow _ (IsCatalogue env) (listed_grow part.Behaviour new_behaviour_of env (IsCatalogue env) (behaviours_grow env) texts document) 0 [] items out (no_behaviours env) h1 in
     (all.known, omega (arith, all.count, few.few))
 
@@ -60,17 +60,17 @@ catalogue_known texts document env d out h =
 target_in_known : (texts : Texts) (document : List ℕ) (env : NamedEnv) (d : Data) (t : NamedTarget) → target_in texts document env d ≡ Ok t → IsTarget env t
 unfolding target_in
 target_in_known texts document env d t h =
-    let (member, e, h1) = bind_ok (placed document (part.Target 0) (looked list.Whole 0 (member_of d (codes "target")))) _ t h in
+    let (member, e, h1) = bind_ok (located document (part.Target 0) (looked list.Whole 0 (member_of d (codes "target")))) _ t h in
     let (p, e1, h2) = bind_ok (part_of texts document (part.Target 0) member) _ t h1 in
-    target_known env p.1 t (placed_is p.0 (part.Target 0) (target_of env p.1) t h2)
+    target_known env p.1 t (located_is p.0 (part.Target 0) (target_of env p.1) t h2)
 
 -- the environment of a document
 pub environment_in_known : (texts : Texts) (document : List ℕ) (d : Data) (env : NamedEnv) → environment_in texts document d ≡ Ok env → IsEnvironment env
 unfolding environment_in
 environment_in_known texts document d env h =
-    let (member, e, h1) = bind_ok (placed document part.Environment (looked list.Whole 0 (member_of d (codes "environment")))) _ env h in
+    let (member, e, h1) = bind_ok (located document part.Environment (looked list.Whole 0 (member_of d (codes "environment")))) _ env h in
     let (p, e1, h2) = bind_ok (part_of texts document part.Environment member) _ env h1 in
-    environment_known p.1 env (placed_is p.0 part.Environment (environment_of p.1) env h2)
+    environment_known p.1 env (located_is p.0 part.Environment (environment_of p.1) env h2)
 
 -- Services
 
@@ -103,7 +103,7 @@ service_known version env catalogue before d x are h old =
 services_grow : (document : List ℕ) (version : ℕ) (env : NamedEnv) (catalogue : List NamedBeh) → IsCatalogue env catalogue → (i : ℕ) (before : List Service) (d : Data) (more : List Service) →
     service_step document version catalogue i before d ≡ Ok more → AreServices catalogue before → Grown (AreServices catalogue) more (length before + 1)
 unfolding service_step
-services_grow document version env catalogue behaviours i before d more h are = grind (arith, bind_ok, placed_is, same_ok, length-append, service_known version env catalogue before d)
+services_grow document version env catalogue behaviours i before d more h are = grind (arith, bind_ok, located_is, same_ok, length-append, service_known version env catalogue before d)
 
 no_services : (catalogue : List NamedBeh) → AreServices catalogue []
 no_services catalogue = record { known = λ d i l. absurd (omega (arith, l)); names = tt }
@@ -112,8 +112,8 @@ pub services_known : (document : List ℕ) (version : ℕ) (env : NamedEnv) (cat
     AreServices catalogue out × (length out ≤ MAX_SERVICES)
 unfolding services_of
 services_known document version env catalogue d out behaviours h =
-    let (items, e, h1) = bind_ok (placed document part.System (counted_items list.Services (codes "services") 0 MAX_SERVICES d)) _ out h in
-    let few = counted_are list.Services (codes "services") 0 MAX_SERVICES d items (placed_is document part.System (counted_items list.Services (codes "services") 0 MAX_SERVICES d) items e) in
+    let (items, e, h1) = bind_ok (located document part.System (counted_items list.Services (codes "services") 0 MAX_SERVICES d)) _ out h in
+    let few = counted_are list.Services (codes "services") 0 MAX_SERVICES d items (located_is document part.System (counted_items list.Services (codes "services") 0 MAX_SERVICES d) items e) in
     let all = parts_grow _ (AreServices catalogue) (services_grow document version env catalogue behaviours) 0 [] items out (no_services catalogue) h1 in
     (all.known, omega (arith, all.count, few.few))
 
@@ -141,8 +141,8 @@ pub targets_in_known : (texts : Texts) (document : List ℕ) (env : NamedEnv) (d
     All (λ named. IsTarget env named.target) out × (2 ≤ length out) × (length out ≤ 4)
 unfolding targets_in
 targets_in_known texts document env d out h =
-    let (items, e, h1) = bind_ok (placed document part.System (counted_items list.Targets (codes "targets") 2 4 d)) _ out h in
-    let few = counted_are list.Targets (codes "targets") 2 4 d items (placed_is document part.System (counted_items list.Targets (codes "targets") 2 4 d) items e) in
+    let (items, e, h1) = bind_ok (located document part.System (counted_items list.Targets (codes "targets") 2 4 d)) _ out h in
+    let few = counted_are list.Targets (codes "targets") 2 4 d items (located_is document part.System (counted_items list.Targets (codes "targets") 2 4 d) items e) in
     let all = parts_grow _ (All (λ (n : Named). IsTarget env n.target)) (listed_grow part.Target named_target_of env (All (λ (n : Named). IsTarget env n.target)) (targets_grow env) texts document) 0 [] items out (λ k x l. absurd (omega (arith, l))) h1 in
     (all.known, omega (arith, all.count, few.some), omega (arith, all.count, few.few))
 
@@ -173,11 +173,11 @@ parts_known : (texts : Texts) (document : List ℕ) (version : ℕ) (env : Named
 unfolding parts_in
 parts_known texts document version env catalogue d made world are h = by (version == 3) h
   where
-    by : (several : Bool) → cond several (targets_in texts document env d >>= (λ targets. placed document part.System (combined_of env catalogue targets)))
+    by : (several : Bool) → cond several (targets_in texts document env d >>= (λ targets. located document part.System (combined_of env catalogue targets)))
         (target_in texts document env d >>= (λ target. Ok (record { environment = env; catalogue = catalogue; target = target }))) ≡ Ok made → AreNamedParts catalogue made
     by true g =
         let (targets, e, g1) = bind_ok (targets_in texts document env d) _ made g in
-        combined_of_known env catalogue targets made world are (targets_in_known texts document env d targets e).0 (placed_is document part.System (combined_of env catalogue targets) made g1)
+        combined_of_known env catalogue targets made world are (targets_in_known texts document env d targets e).0 (located_is document part.System (combined_of env catalogue targets) made g1)
     by false g =
         let (target, e, g1) = bind_ok (target_in texts document env d) _ made g in
         subst (AreNamedParts catalogue) (same_ok _ made g1) (record {
@@ -191,8 +191,8 @@ parts_known texts document version env catalogue d made world are h = by (versio
 library_in_known : (texts : Texts) (document : List ℕ) (d : Data) (library : PlainLibrary) → library_in texts document d ≡ Ok library → IsKnownLibrary library
 unfolding library_in
 library_in_known texts document d library h =
-    let (version, e, h1) = bind_ok (placed document part.System (version_of d)) _ library h in
-    let (limit, e1, h2) = bind_ok (placed document part.System (limit_of d)) _ library h1 in
+    let (version, e, h1) = bind_ok (located document part.System (version_of d)) _ library h in
+    let (limit, e1, h2) = bind_ok (located document part.System (limit_of d)) _ library h1 in
     let (env, e2, h3) = bind_ok (environment_in texts document d) _ library h2 in
     let (catalogue, e3, h4) = bind_ok (catalogue_in texts document env d) _ library h3 in
     let (services, e4, h5) = bind_ok (services_of document version catalogue d) _ library h4 in
@@ -209,7 +209,7 @@ library_in_known texts document d library h =
         services = is.parts.services services all.0;
         few_services = all.1;
         target = is.parts.target;
-        limit = limit_known d limit (placed_is document part.System (limit_of d) limit e1);
+        limit = limit_known d limit (located_is document part.System (limit_of d) limit e1);
       };
       states = is.states;
       actions = is.actions;

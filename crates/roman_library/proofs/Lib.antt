@@ -1,7 +1,7 @@
 mod PrefixLemmas
 pub mod Common
 mod LibraryLemmas
-mod PlacedLemmas
+mod LocatedLemmas
 pub mod TargetLemmas
 pub mod KnownLemmas
 pub mod CombinedLemmas

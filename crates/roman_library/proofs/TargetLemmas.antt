@@ -1,5 +1,5 @@
 -- Several targets of a document, and the parts made from them.
-use Rattle.roman_library.proofs.Common.{All, Err, IfSome, List, None, Ok, Option, Some, [], ap, get_or, length, map, refl, slice_get, subst, sym, ◌<◌, ◌∷◌, ◌≡◌, get_or-map, length-map, slice_get-map, option_map, HasNoRepeats, IsEnv, Request, combined_behaviour_over, combined_is_system, combined_target_over, state_count, KeepsRules, combined_behaviour, forbidding, requests_in, combined_parts, CombineError, Combined, Named, IsBehaviour, IsTarget, NamedBeh, NamedEnv, Gives, broken_rule, combined_of, ArePartsOf, AreServices, IsCatalogue, IsService, behaviour_name, Service}
+use Rattle.roman_library.proofs.Common.{All, Err, IfSome, List, None, Ok, Option, Some, [], ap, get_or, length, map, refl, slice_get, subst, sym, ◌<◌, ◌∷◌, ◌≡◌, get_or-map, length-map, slice_get-map, option_map, HasNoRepeats, IsEnv, Request, combined_behaviour_over, combined_is_system, combined_target_over, state_count, ObeysRules, combined_behaviour, forbidding, requests_in, combined_parts, CombineError, Combined, Named, IsBehaviour, IsTarget, NamedBeh, NamedEnv, Gives, broken_rule, combined_of, ArePartsOf, AreServices, IsCatalogue, IsService, behaviour_name, Service}
 use Rattle.roman_multi.specs.Combining as combining
 use Rattle.roman_multi.specs.declared.error.CombineError.TheVariants as error
 
@@ -9,7 +9,7 @@ pub made_gives : (env : NamedEnv) (catalogue : List NamedBeh) (targets : List Na
 unfolding combined_of
 made_gives env catalogue targets made is allowed = rw allowed (ap Ok (sym is))
 
-pub broken_gives : (env : NamedEnv) (catalogue : List NamedBeh) (targets : List Named) (why : CombineError) → KeepsRules (Err why) (forbidding env targets) →
+pub broken_gives : (env : NamedEnv) (catalogue : List NamedBeh) (targets : List Named) (why : CombineError) → ObeysRules (Err why) (forbidding env targets) →
     Gives combining.plain_combined (Err (broken_rule why)) (combined_of env catalogue targets)
 unfolding combined_of
 broken_gives env catalogue targets error.States h = rw h refl

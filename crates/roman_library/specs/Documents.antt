@@ -23,7 +23,7 @@ use Rattle.roman_multi.specs.declared.parts.Named.{Named}
 use Rattle.roman_multi.specs.declared.error.CombineError.{CombineError}
 use Rattle.roman_multi.specs.declared.error.CombineError.TheVariants as combine
 use Rattle.roman_library.specs.Library.{PlainLibrary, behaviour_name, service_name}
-use Rattle.roman_library.specs.Refusals.{placed}
+use Rattle.roman_library.specs.Refusals.{located}
 use Rattle.roman_library.specs.declared.library.Service.{Service}
 use Rattle.roman_library.specs.declared.refusal.Part.{Part}
 use Rattle.roman_library.specs.declared.refusal.Part.TheVariants as part
@@ -70,7 +70,7 @@ file_of d = optional file_in None (member_of d (codes "file"))
 unfoldable pub value_at : Texts → List ℕ → Part → Result Data Refusal
 value_at texts name part =
     let text = shelf.shelf_text texts name in
-    placed name part (check (nat_le (length text) MAX_DOCUMENT_BYTES) kind.TooLong list.Whole 0 text >>= (λ bytes. found kind.NotJson list.Whole 0 (json_of bytes)))
+    located name part (check (nat_le (length text) MAX_DOCUMENT_BYTES) kind.TooLong list.Whole 0 text >>= (λ bytes. found kind.NotJson list.Whole 0 (json_of bytes)))
 
 -- a part written in place, or the value of its file, with the name of the document that has it
 abbrev pub opened : Texts → List ℕ → Part → Data → Option (List ℕ) → Result (List ℕ × Data) Refusal
@@ -79,7 +79,7 @@ opened texts document part d (Some file) = value_at texts file part >>= (λ valu
 
 -- the value of a part, written in place or in the file that it names, with the name of the document that has it
 unfoldable pub part_of : Texts → List ℕ → Part → Data → Result (List ℕ × Data) Refusal
-part_of texts document part d = placed document part (file_of d) >>= opened texts document part d
+part_of texts document part d = located document part (file_of d) >>= opened texts document part d
 
 -- ---- parts that a document lists
 
@@ -95,7 +95,7 @@ ReadAfter X = NamedEnv → List X → Data → Result X PartError
 unfoldable pub listed_in : {X : Type 0} → PartAt → ReadAfter X → Texts → List ℕ → NamedEnv → List X → ℕ → Data → Result X Refusal
 listed_in at read texts document env before i d = do
   (file, value) ← part_of texts document (at i) d
-  placed file (at i) (read env before value)
+  located file (at i) (read env before value)
 
 -- the step that reads part i of a list after the parts before it, and appends it
 unfoldable pub listed_step : {X : Type 0} → PartAt → ReadAfter X → Texts → List ℕ → NamedEnv → ℕ → List X → Data → Result (List X) Refusal
@@ -113,9 +113,9 @@ new_name_of before d = do
 -- the environment of a document
 unfoldable pub environment_in : Texts → List ℕ → Data → Result NamedEnv Refusal
 environment_in texts document d = do
-  member ← placed document part.Environment (looked list.Whole 0 (member_of d (codes "environment")))
+  member ← located document part.Environment (looked list.Whole 0 (member_of d (codes "environment")))
   (file, value) ← part_of texts document part.Environment member
-  placed file part.Environment (environment_of value)
+  located file part.Environment (environment_of value)
 
 -- a behaviour with a name that no earlier one has
 unfoldable pub new_behaviour_of : NamedEnv → List NamedBeh → Data → Result NamedBeh PartError
@@ -132,15 +132,15 @@ behaviour_step texts document env = listed_step part.Behaviour new_behaviour_of 
 -- the behaviours of a document
 unfoldable pub catalogue_in : Texts → List ℕ → NamedEnv → Data → Result (List NamedBeh) Refusal
 catalogue_in texts document env d = do
-  items ← placed document part.System (counted_items list.Behaviours (codes "behaviours") 0 MAX_BEHAVIOURS d)
+  items ← located document part.System (counted_items list.Behaviours (codes "behaviours") 0 MAX_BEHAVIOURS d)
   each_item (behaviour_step texts document env) 0 [] items
 
 -- the target of a document
 unfoldable pub target_in : Texts → List ℕ → NamedEnv → Data → Result NamedTarget Refusal
 target_in texts document env d = do
-  member ← placed document (part.Target 0) (looked list.Whole 0 (member_of d (codes "target")))
+  member ← located document (part.Target 0) (looked list.Whole 0 (member_of d (codes "target")))
   (file, value) ← part_of texts document (part.Target 0) member
-  placed file (part.Target 0) (target_of env value)
+  located file (part.Target 0) (target_of env value)
 
 -- ---- several targets
 
@@ -158,7 +158,7 @@ target_step texts document env = listed_step part.Target named_target_of texts d
 -- the targets of a document, from two to four
 unfoldable pub targets_in : Texts → List ℕ → NamedEnv → Data → Result (List Named) Refusal
 targets_in texts document env d = do
-  items ← placed document part.System (counted_items list.Targets (codes "targets") 2 4 d)
+  items ← located document part.System (counted_items list.Targets (codes "targets") 2 4 d)
   each_item (target_step texts document env) 0 [] items
 
 -- the refusal for a broken rule on the combined states and actions, with the number of the rule
@@ -182,7 +182,7 @@ combined_of env catalogue targets = unless_broken (forbidding env targets) (comb
 unfoldable pub parts_in : Texts → List ℕ → ℕ → NamedEnv → List NamedBeh → Data → Result PlainCombined Refusal
 parts_in texts document version env catalogue d =
     if version == 3
-    then (targets_in texts document env d >>= (λ targets. placed document part.System (combined_of env catalogue targets)))
+    then (targets_in texts document env d >>= (λ targets. located document part.System (combined_of env catalogue targets)))
     else (target_in texts document env d >>= (λ target. Ok (record { environment = env; catalogue = catalogue; target = target })))
 
 -- ---- services
@@ -223,12 +223,12 @@ service_of version catalogue before d = do
 -- the step that reads service i, and appends it
 unfoldable pub service_step : List ℕ → ℕ → List NamedBeh → ℕ → List Service → Data → Result (List Service) Refusal
 service_step document version catalogue i before d =
-    placed document (part.Service i) (service_of version catalogue before d) >>= (λ service. Ok (before ++ service ∷ []))
+    located document (part.Service i) (service_of version catalogue before d) >>= (λ service. Ok (before ++ service ∷ []))
 
 -- the services of a document
 unfoldable pub services_of : List ℕ → ℕ → List NamedBeh → Data → Result (List Service) Refusal
 services_of document version catalogue d = do
-  items ← placed document part.System (counted_items list.Services (codes "services") 0 MAX_SERVICES d)
+  items ← located document part.System (counted_items list.Services (codes "services") 0 MAX_SERVICES d)
   each_item (service_step document version catalogue) 0 [] items
 
 -- ---- the document
@@ -236,8 +236,8 @@ services_of document version catalogue d = do
 -- the library that the value of a document means
 unfoldable pub library_in : Texts → List ℕ → Data → Result PlainLibrary Refusal
 library_in texts document d = do
-  version ← placed document part.System (version_of d)
-  limit ← placed document part.System (limit_of d)
+  version ← located document part.System (version_of d)
+  limit ← located document part.System (limit_of d)
   env ← environment_in texts document d
   catalogue ← catalogue_in texts document env d
   services ← services_of document version catalogue d

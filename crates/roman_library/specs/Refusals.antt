@@ -17,9 +17,9 @@ refusal_of document part (part_error.Refused kind list index) = record { documen
 refusal_of document part part_error.Memory = record { document = document; kind = Form; part = part; list = Whole; index = 0 }
 
 -- the reading of a part, with the document and the part in its refusal
-abbrev pub placed : {X : Type 0} → List ℕ → Part → Result X PartError → Result X Refusal
-placed document part (Ok x) = Ok x
-placed document part (Err e) = Err (refusal_of document part e)
+abbrev pub located : {X : Type 0} → List ℕ → Part → Result X PartError → Result X Refusal
+located document part (Ok x) = Ok x
+located document part (Err e) = Err (refusal_of document part e)
 
 -- the refusal is the one that the definition gives; nothing is stated for a fault, or if memory runs out
 abbrev pub Stops : {Y : Type 0} → LoadError → Result Y Refusal → Type 0
@@ -59,16 +59,16 @@ IsRefusal refusal (error.Refused given) = given ≡ refusal
 IsRefusal refusal error.Memory = Unit {0}
 
 -- the error of a part, with the document and the part
-abbrev pub PlacesError : List ℕ → Part → PartError → LoadError → Type 0
-PlacesError document part (part_error.Refused kind list index) given = IsRefusal (refusal_of document part (part_error.Refused kind list index)) given
-PlacesError document part part_error.Memory given = given ≡ error.Memory
+abbrev pub LocatesError : List ℕ → Part → PartError → LoadError → Type 0
+LocatesError document part (part_error.Refused kind list index) given = IsRefusal (refusal_of document part (part_error.Refused kind list index)) given
+LocatesError document part part_error.Memory given = given ≡ error.Memory
 
 -- the value that was read is returned, and an error is returned with the document and the part
-abbrev pub Places : {X : Type 0} → List ℕ → Part → Result X PartError → Result X LoadError → Type 0
-Places document part (Ok x) (Ok y) = y ≡ x
-Places document part (Ok x) (Err given) = ⊥
-Places document part (Err e) (Ok y) = ⊥
-Places document part (Err e) (Err given) = PlacesError document part e given
+abbrev pub Locates : {X : Type 0} → List ℕ → Part → Result X PartError → Result X LoadError → Type 0
+Locates document part (Ok x) (Ok y) = y ≡ x
+Locates document part (Ok x) (Err given) = ⊥
+Locates document part (Err e) (Ok y) = ⊥
+Locates document part (Err e) (Err given) = LocatesError document part e given
 
 -- the result isn't a fault
 abbrev pub IsQuiet : {T : Type 0} → Result T LoadError → Type 0

@@ -6,8 +6,8 @@ ghost use Rattle.roman_library.specs.Library.{IsSmallCatalogue};
 ghost use Rattle.roman_library.specs.Refusals.{LoadsFrom, LeavesShelf};
 
 use crate::listing::{Listed, load_items};
+use crate::locating::located;
 use crate::names::place_of_behaviour;
-use crate::placing::placed;
 use crate::refusal::{LoadError, Part};
 use roman_io::Shelf;
 use roman_model::MAX_BEHAVIOURS;
@@ -34,7 +34,7 @@ pub(crate) fn load_catalogue<F: Shelf>(
         (F.faults shelf.new) result }
 {
     let items = counted_member(v, "behaviours", List::Behaviours, 0, MAX_BEHAVIOURS as u32);
-    let items = placed(alloc, document, Part::System, items)?;
+    let items = located(alloc, document, Part::System, items)?;
     load_items(alloc, shelf, document, items, environment)
 }
 

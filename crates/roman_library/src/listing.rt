@@ -7,8 +7,8 @@ ghost use Rattle.roman_parts.specs.Reading.{Gives};
 ghost use Rattle.roman_library.specs.Documents.{PartAt, ReadAfter, listed_in, listed_step};
 ghost use Rattle.roman_library.specs.Refusals.{LoadsFrom, LeavesShelf};
 
+use crate::locating::located;
 use crate::part_file::{file_of, value_at};
-use crate::placing::placed;
 use crate::refusal::{LoadError, Part};
 use roman_io::Shelf;
 use roman_parts::{Environment, PartError};
@@ -88,15 +88,15 @@ fn load_item<P: Listed, F: Shelf>(
         (F.faults shelf.new) result }
 {
     let part = P::part(number);
-    match placed(alloc, document, part, file_of(v))? {
+    match located(alloc, document, part, file_of(v))? {
         None => {
             let read = P::read_after(alloc, v, environment, before);
-            placed(alloc, document, part, read)
+            located(alloc, document, part, read)
         }
         Some(file) => {
             let value = value_at(alloc, shelf, file, part)?;
             let read = P::read_after(alloc, &value, environment, before);
-            placed(alloc, file, part, read)
+            located(alloc, file, part, read)
         }
     }
 }

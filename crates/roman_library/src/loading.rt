@@ -8,9 +8,9 @@ ghost use Rattle.roman_library.specs.Refusals.{Loads, LoadsFrom, CausesLoad};
 use crate::catalogue::load_catalogue;
 use crate::header::{read_limit, read_version};
 use crate::library::Library;
+use crate::locating::located;
 use crate::part_file::value_at;
 use crate::parts::load_environment;
-use crate::placing::placed;
 use crate::refusal::{LoadError, Part};
 use crate::services::read_services;
 use crate::targets::load_parts;
@@ -18,7 +18,7 @@ use roman_io::Shelf;
 use serde_json::Value;
 use std::alloc::Global;
 
-#[tactic(auto, using(crate::proofs::PlacedLemmas::where_told), unfolding(crate::specs::Documents::library_of))]
+#[tactic(auto, using(crate::proofs::LocatedLemmas::where_told), unfolding(crate::specs::Documents::library_of))]
 /// Loads the library of the system document with this name, with the part files that it names.
 ///
 /// Fails with `Refused` exactly when the document breaks a rule, and names the first broken one in the
@@ -47,8 +47,8 @@ fn load_library<F: Shelf>(
     ensures texts { F.texts shelf.new ≡ F.texts shelf.old }
     ensures cause { CausesLoad (F.faults shelf.old) (F.faults shelf.new) result }
 {
-    let version = placed(alloc, document, Part::System, read_version(v))?;
-    let limit = placed(alloc, document, Part::System, read_limit(v))?;
+    let version = located(alloc, document, Part::System, read_version(v))?;
+    let limit = located(alloc, document, Part::System, read_limit(v))?;
     let environment = load_environment(alloc, shelf, document, v)?;
     let catalogue = load_catalogue(alloc, shelf, document, v, &environment)?;
     let services = read_services(alloc, document, v, version, &catalogue)?;

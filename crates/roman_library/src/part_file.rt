@@ -5,7 +5,7 @@ ghost use Rattle.roman_parts.specs.Reading.{Gives};
 ghost use Rattle.roman_library.specs.Documents.{file_in, file_of, value_at};
 ghost use Rattle.roman_library.specs.Refusals.{LoadsFrom, CausesLoad};
 
-use crate::placing::placed;
+use crate::locating::located;
 use crate::refusal::{LoadError, Part};
 use crate::text::{DocError, document};
 use roman_io::Shelf;
@@ -60,5 +60,5 @@ pub(crate) fn value_at<F: Shelf>(
         Err(DocError::TooLong) => Kind::TooLong,
         Err(DocError::NotJson) => Kind::NotJson,
     };
-    placed(alloc, name, part, Err(refused(kind, List::Whole, 0)))
+    located(alloc, name, part, Err(refused(kind, List::Whole, 0)))
 }

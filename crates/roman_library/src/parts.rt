@@ -5,8 +5,8 @@ ghost use Rattle.roman_library.specs.Documents.{environment_in, target_in};
 ghost use Rattle.roman_parts.specs.Named.{IsTarget};
 ghost use Rattle.roman_library.specs.Refusals.{LoadsFrom, LeavesShelf};
 
+use crate::locating::located;
 use crate::part_file::{file_of, value_at};
-use crate::placing::placed;
 use crate::refusal::{LoadError, Part};
 use roman_io::Shelf;
 use roman_parts::{Environment, List, PartError, Target, looked, read_environment, read_target};
@@ -28,12 +28,12 @@ pub(crate) fn load_environment<F: Shelf>(
 {
     let part = Part::Environment;
     let member = looked(member(v, "environment"), List::Whole, 0);
-    let member = placed(alloc, document, part, member)?;
-    match placed(alloc, document, part, file_of(member))? {
-        None => placed(alloc, document, part, read_environment(alloc, member)),
+    let member = located(alloc, document, part, member)?;
+    match located(alloc, document, part, file_of(member))? {
+        None => located(alloc, document, part, read_environment(alloc, member)),
         Some(file) => {
             let value = value_at(alloc, shelf, file, part)?;
-            placed(alloc, file, part, read_environment(alloc, &value))
+            located(alloc, file, part, read_environment(alloc, &value))
         }
     }
 }
@@ -54,9 +54,9 @@ pub(crate) fn load_target<F: Shelf>(
 {
     let part = Part::Target(0);
     let member = looked(member(v, "target"), List::Whole, 0);
-    let member = placed(alloc, document, part, member)?;
-    match placed(alloc, document, part, file_of(member))? {
-        None => placed(
+    let member = located(alloc, document, part, member)?;
+    match located(alloc, document, part, file_of(member))? {
+        None => located(
             alloc,
             document,
             part,
@@ -64,7 +64,7 @@ pub(crate) fn load_target<F: Shelf>(
         ),
         Some(file) => {
             let value = value_at(alloc, shelf, file, part)?;
-            placed(alloc, file, part, read_target(alloc, &value, environment))
+            located(alloc, file, part, read_target(alloc, &value, environment))
         }
     }
 }

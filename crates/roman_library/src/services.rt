@@ -9,8 +9,8 @@ ghost use Rattle.roman_library.specs.Documents.{behaviour_place, state_of, froze
 ghost use Rattle.roman_library.specs.Refusals.{LoadsQuietly};
 
 use crate::library::Service;
+use crate::locating::located;
 use crate::names::{place_of_behaviour, place_of_service};
-use crate::placing::placed;
 use crate::refusal::{LoadError, Part};
 use roman_model::{MAX_BEHAVIOURS, MAX_SERVICES};
 use roman_parts::{
@@ -34,7 +34,7 @@ pub(crate) fn read_services(
     ensures known { IfOk result (λ services. AreFewServices catalogue.now services.items) }
 {
     let items = counted_member(v, "services", List::Services, 0, MAX_SERVICES as u32);
-    let items = placed(alloc, document, Part::System, items)?;
+    let items = located(alloc, document, Part::System, items)?;
     read_items(alloc, document, items, version, catalogue)
 }
 
@@ -55,7 +55,7 @@ fn read_items(
     let mut services = Vec::with_capacity(alloc, items.len())?;
     for (i, item) in items.iter().enumerate() {
         let read = read_service(item, version, catalogue, &services);
-        let service = placed(alloc, document, Part::Service(i as u32), read)?;
+        let service = located(alloc, document, Part::Service(i as u32), read)?;
         services.push(service)?;
     }
     Ok(services)

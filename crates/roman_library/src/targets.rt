@@ -8,9 +8,9 @@ ghost use Rattle.roman_library.specs.Library.{ArePartsOf, AreTargets, IsCatalogu
 ghost use Rattle.roman_library.specs.Refusals.{LoadsFrom, LeavesShelf};
 
 use crate::listing::{Listed, load_items};
+use crate::locating::located;
 use crate::names::place_of_target;
 use crate::parts::load_target;
-use crate::placing::placed;
 use crate::refusal::{LoadError, Part};
 use roman_io::Shelf;
 use roman_multi::{CombineError, Combined, Named, combine};
@@ -53,7 +53,7 @@ pub(crate) fn load_parts<F: Shelf>(
     if version == SEVERAL {
         let targets = load_targets(alloc, shelf, document, v, &environment)?;
         let made = combine_targets(alloc, &environment, &catalogue, &targets);
-        return placed(alloc, document, Part::System, made);
+        return located(alloc, document, Part::System, made);
     }
     let target = load_target(alloc, shelf, document, v, &environment)?;
     Ok(Combined {
@@ -78,7 +78,7 @@ fn load_targets<F: Shelf>(
         (F.faults shelf.new) result }
 {
     let items = counted_member(v, "targets", List::Targets, FEWEST, MOST);
-    let items = placed(alloc, document, Part::System, items)?;
+    let items = located(alloc, document, Part::System, items)?;
     load_items(alloc, shelf, document, items, environment)
 }
 

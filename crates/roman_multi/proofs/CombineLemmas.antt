@@ -1,12 +1,12 @@
 -- The rule that forbids the targets to be combined.
-use Rattle.roman_multi.proofs.Common.{All, ◌≡◌, ℕ, ◌<◌, ◌≤◌, List, [], ◌∷◌, map, length, None, Ok, Err, IsTrue, IsFalse, refl, ap, ap₂, ◌∙◌, arith, IsTarget, NamedEnv, NamedBeh, NamedTarget, ltb-false, lt-ltb, le-ltb, true≢false, false≢true, length-map, below, product_of, target_sizes, count, MAX_STATES, MAX_ACTIONS, Request, length-below, machines, requests_in, has_many_states, has_bad_count, forbidding, combined_behaviour, PlainCombined, combined_state_names, request_names, KeepsRules, combined_parts, flat, AreCombinedNames, Named, IsMerge, combined_environment, one_target, Merge, CombineError}
+use Rattle.roman_multi.proofs.Common.{All, ◌≡◌, ℕ, ◌<◌, ◌≤◌, List, [], ◌∷◌, map, length, None, Ok, Err, IsTrue, IsFalse, refl, ap, ap₂, ◌∙◌, arith, IsTarget, NamedEnv, NamedBeh, NamedTarget, ltb-false, lt-ltb, le-ltb, true≢false, false≢true, length-map, below, product_of, target_sizes, count, MAX_STATES, MAX_ACTIONS, Request, length-below, machines, requests_in, has_many_states, has_bad_count, forbidding, combined_behaviour, PlainCombined, combined_state_names, request_names, ObeysRules, combined_parts, flat, AreCombinedNames, Named, IsMerge, combined_environment, one_target, Merge, CombineError}
 use Rattle.roman_multi.specs.declared.error.CombineError.TheVariants as error
 use Rattle.roman_multi.proofs.FlatLemmas.{fits_within, within_fits}
 use Rattle.roman_multi.proofs.MoveLemmas.{requests_in_range}
 
 -- an error of the names is the first rule that forbids the combination
 pub names_forbid : (env : NamedEnv) (targets : List Named) (why : CombineError) → IsFalse (has_many_states targets) → IsFalse (has_bad_count (requests_in env targets)) → AreCombinedNames env targets (Err why) →
-    KeepsRules (Err why) (forbidding env targets)
+    ObeysRules (Err why) (forbidding env targets)
 unfolding forbidding
 names_forbid env targets error.States few good h = absurd h
 names_forbid env targets error.Actions few good h = absurd h

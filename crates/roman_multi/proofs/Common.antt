@@ -28,7 +28,7 @@ pub use Rattle.roman_parts.specs.Listed.{AreMoves, AreTriples, listed_beh, liste
 pub use Rattle.roman_parts.specs.Named.{IsOver, IsTarget, NamedBeh, NamedEnv, NamedTarget}
 pub use Rattle.roman_radix.specs.Radix.{with_part}
 pub use Rattle.roman_read.specs.Names.{is_name, is_name_byte, place_of}
-pub use Rattle.roman_multi.specs.Combining.{IsBehaviourOf, KeepsRules, PlainCombined, combined_behaviour, combined_state_names, has_bad_count, has_long_name, has_many_states, has_one_name, has_repeats, is_long, joined, machines, names_at, request_name, request_names, requests_in, stands_before}
+pub use Rattle.roman_multi.specs.Combining.{IsBehaviourOf, ObeysRules, PlainCombined, combined_behaviour, combined_state_names, has_bad_count, has_long_name, has_many_states, has_one_name, has_repeats, is_long, joined, machines, names_at, request_name, request_names, requests_in, stands_before}
 unfoldable pub use Rattle.roman_multi.specs.Combining.{combined_parts, forbidding}
 pub use Rattle.roman_multi.specs.Lists.{AreCombinedNames, flat, is_word, listed_moves, listed_triples, member_next, moves_by, moves_from, moves_in, moves_on, next_of_all, next_on, triples_by, used_at, used_by}
 pub use Rattle.roman_multi.specs.Merges.{IsMerge, combined_environment, next_in, next_of_member, one_target, state_total}

@@ -115,13 +115,13 @@ forbidding env targets =
     else None)))
 
 -- a result obeys the rules: they allow a combination that was made, and an error is the first rule that forbids it; nothing is stated if memory runs out
-abbrev pub KeepsRules : Result Combined CombineError → Option CombineError → Type 0
-KeepsRules (Ok made) rule = rule ≡ None
-KeepsRules (Err error.States) rule = rule ≡ Some error.States
-KeepsRules (Err error.Actions) rule = rule ≡ Some error.Actions
-KeepsRules (Err error.LongName) rule = rule ≡ Some error.LongName
-KeepsRules (Err error.Repeated) rule = rule ≡ Some error.Repeated
-KeepsRules (Err error.Memory) rule = Unit {0}
+abbrev pub ObeysRules : Result Combined CombineError → Option CombineError → Type 0
+ObeysRules (Ok made) rule = rule ≡ None
+ObeysRules (Err error.States) rule = rule ≡ Some error.States
+ObeysRules (Err error.Actions) rule = rule ≡ Some error.Actions
+ObeysRules (Err error.LongName) rule = rule ≡ Some error.LongName
+ObeysRules (Err error.Repeated) rule = rule ≡ Some error.Repeated
+ObeysRules (Err error.Memory) rule = Unit {0}
 
 -- ---- parts
 

@@ -1,6 +1,6 @@
 //! The combination of several targets.
 ghost use Rattle.std.specs.Prelude.{◌≡◌, ◌≤◌, length, All};
-ghost use Rattle.roman_multi.specs.Combining.{IsBehaviourOf, IsOf, KeepsRules, combined_parts, forbidding, has_bad_count, Makes};
+ghost use Rattle.roman_multi.specs.Combining.{IsBehaviourOf, IsOf, ObeysRules, combined_parts, forbidding, has_bad_count, Makes};
 ghost use Rattle.roman_multi.specs.Lists.{AreCombinedNames};
 ghost use Rattle.roman_multi.specs.Merges.{IsMerge, merge_parts, merge_rule, AreOverEnv};
 
@@ -39,7 +39,7 @@ pub fn combine(
     requires catalogue { All (IsBehaviourOf env.now) catalogue.now }
     requires targets { All (λ named. IsOf env.now named.target) targets.now }
     ensures parts { Makes result (combined_parts env.now catalogue.now targets.now) }
-    ensures rules { KeepsRules result (forbidding env.now targets.now) }
+    ensures rules { ObeysRules result (forbidding env.now targets.now) }
 {
     let sizes = sizes_of(alloc, env, targets)?;
     let Some(shape) = Shape::new(1, 1, &sizes, u32::from(MAX_STATES)) else {
@@ -74,7 +74,7 @@ fn combine_parts(
     requires merge { IsMerge merge.now }
     requires catalogue { AreOverEnv merge.now catalogue.now }
     ensures parts { Makes result (merge_parts merge.now catalogue.now) }
-    ensures rules { KeepsRules result (merge_rule merge.now) }
+    ensures rules { ObeysRules result (merge_rule merge.now) }
 {
     let names = names_of(alloc, merge)?;
     let (states, actions) = names;

@@ -1,5 +1,5 @@
 -- The lines of a text that grows.
-use Rattle.roman_text.proofs.Common.{◌≡◌, ℕ, suc, ◌+◌, ◌≤◌, List, [], ◌∷◌, ◌++◌, length, take, drop, get_or, Bool, true, false, cond, None, Some, refl, sym, ap, ap₂, ◌∙◌, subst, append_assoc, drop-cons, arith, ◌≢◌, zero, ◌==◌, min, ◌||◌, inl, inr, ltb-true, eqb-true, ltb, append-nil, take_all, length-take, append_cancel_left, take-append-drop, take_min, passes_at_first, position, position_or_len, is_newline, kept, unfinished, IsSplit, both_ways, or_from, list_any-append, by_test, from_push, ended_lines-text, ended_lines_last, lines-text, lines_last, text_of_lines-push, has, lines, ended_lines, onto_ended_line, text_of_lines, IsLine}
+use Rattle.roman_text.proofs.Common.{◌≡◌, ℕ, suc, ◌+◌, ◌≤◌, List, [], ◌∷◌, ◌++◌, length, take, drop, get_or, Bool, true, false, cond, None, Some, refl, sym, ap, ap₂, ◌∙◌, subst, append_assoc, drop-cons, arith, ◌≢◌, zero, ◌==◌, min, ◌||◌, inl, inr, ltb-true, eqb-true, ltb, append-nil, take_all, length-take, append_cancel_left, take-append-drop, take_min, passes_at_first, position, position_or_len, is_newline, line_head, unfinished, IsSplit, both_ways, or_from, list_any-append, by_test, from_push, ended_lines-text, ended_lines_last, lines-text, lines_last, text_of_lines-push, has, lines, ended_lines, onto_ended_line, text_of_lines, IsLine}
 use Rattle.roman_text.proofs.WordLemmas.{none_at, some_at}
 
 -- ---- lines
@@ -102,42 +102,42 @@ first_newline bytes i e =
 -- ---- the kept part of a line
 
 -- the kept part and more bytes decide the new kept part
-pub kept-append : (line part : List ℕ) → kept (kept line ++ part) ≡ kept (line ++ part)
-unfolding kept
-kept-append line part = first_bytes 257 line where
+pub line_head-append : (line part : List ℕ) → line_head (line_head line ++ part) ≡ line_head (line ++ part)
+unfolding line_head
+line_head-append line part = first_bytes 257 line where
   first_bytes : (n : ℕ) (line : List ℕ) → take n (take n line ++ part) ≡ take n (line ++ part)
   first_bytes zero line = refl
   first_bytes (suc n) [] = refl
   first_bytes (suc n) (x ∷ xs) = ap (λ (rest : List ℕ). x ∷ rest) (first_bytes n xs)
 
 -- the kept part of a kept part is the same
-pub kept-again : (line whole : List ℕ) → line ≡ kept whole → kept line ≡ kept whole
-kept-again line whole e = ap kept (sym (append-nil line) ∙ ap (λ (held : List ℕ). held ++ []) e) ∙ kept-append whole [] ∙ ap kept (append-nil whole)
+pub line_head-again : (line whole : List ℕ) → line ≡ line_head whole → line_head line ≡ line_head whole
+line_head-again line whole e = ap line_head (sym (append-nil line) ∙ ap (λ (held : List ℕ). held ++ []) e) ∙ line_head-append whole [] ∙ ap line_head (append-nil whole)
 
 -- the kept part of an empty line is empty
-pub kept-nil : kept [] ≡ []
-unfolding kept
-kept-nil = refl
+pub line_head-nil : line_head [] ≡ []
+unfolding line_head
+line_head-nil = refl
 
 -- a line of at most 257 bytes is kept whole
-pub kept-short : (line : List ℕ) → length line ≤ 257 → kept line ≡ line
-unfolding kept
-kept-short line h = take_all 257 line h
+pub line_head-short : (line : List ℕ) → length line ≤ 257 → line_head line ≡ line
+unfolding line_head
+line_head-short line h = take_all 257 line h
 
 -- the length of the kept part
-pub length-kept : (line : List ℕ) → length (kept line) ≡ min 257 (length line)
-unfolding kept
-length-kept line = length-take 257 line
+pub length-line_head : (line : List ℕ) → length (line_head line) ≡ min 257 (length line)
+unfolding line_head
+length-line_head line = length-take 257 line
 
 -- if no bytes are kept, the line is empty
-pub kept-empty : (line : List ℕ) → length (kept line) ≡ 0 → line ≡ []
-unfolding kept
-kept-empty [] h = refl
-kept-empty (x ∷ xs) h = absurd (omega (arith, length-take 257 (x ∷ xs)))
+pub line_head-empty : (line : List ℕ) → length (line_head line) ≡ 0 → line ≡ []
+unfolding line_head
+line_head-empty [] h = refl
+line_head-empty (x ∷ xs) h = absurd (omega (arith, length-take 257 (x ∷ xs)))
 
 -- the held bytes, and the next ones for which there is room, are the kept part
-pub hold_room : (held bytes : List ℕ) (n room : ℕ) → n ≡ min (length bytes) room → room + length held ≡ 257 → held ++ take n bytes ≡ kept (held ++ bytes)
-unfolding kept
+pub hold_room : (held bytes : List ℕ) (n room : ℕ) → n ≡ min (length bytes) room → room + length held ≡ 257 → held ++ take n bytes ≡ line_head (held ++ bytes)
+unfolding line_head
 hold_room held bytes n room e full = go 257 held full where
   few : take n bytes ≡ take room bytes
   few = ap (λ (n : ℕ). take n bytes) (let same : n ≡ min room (length bytes) = omega arith in same) ∙ take_min room bytes
@@ -154,15 +154,15 @@ lines_are_ended : (bytes : List ℕ) → lines bytes ≡ ended_lines bytes ++ li
 lines_are_ended bytes = ap lines (lines_are bytes).whole ∙ lines-text (ended_lines bytes) (unfinished bytes) (lines_are bytes).each
 
 -- if some bytes of the last line are held, it is a line
-pub lines_rest : (bytes : List ℕ) → ltb 0 (length (kept (unfinished bytes))) ≡ true → lines bytes ≡ ended_lines bytes ++ unfinished bytes ∷ []
+pub lines_rest : (bytes : List ℕ) → ltb 0 (length (line_head (unfinished bytes))) ≡ true → lines bytes ≡ ended_lines bytes ++ unfinished bytes ∷ []
 lines_rest bytes h =
     lines_are_ended bytes ∙ ap (λ more. ended_lines bytes ++ more) (lines_last (unfinished bytes) (lines_are bytes).last some)
   where
     some : unfinished bytes ≢ []
     some e =
-        let held = ltb-true 0 (length (kept (unfinished bytes))) h in
-        omega (arith, length-kept (unfinished bytes), ap length e)
+        let held = ltb-true 0 (length (line_head (unfinished bytes))) h in
+        omega (arith, length-line_head (unfinished bytes), ap length e)
 
 -- if no bytes are held, there is no other line
-pub lines_none : (bytes : List ℕ) → ltb 0 (length (kept (unfinished bytes))) ≡ false → lines bytes ≡ ended_lines bytes
-lines_none bytes h = grind (arith, append-nil, kept-empty, lines_are_ended)
+pub lines_none : (bytes : List ℕ) → ltb 0 (length (line_head (unfinished bytes))) ≡ false → lines bytes ≡ ended_lines bytes
+lines_none bytes h = grind (arith, append-nil, line_head-empty, lines_are_ended)

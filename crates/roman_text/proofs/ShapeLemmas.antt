@@ -1,7 +1,7 @@
 -- The shape of a line, from its words.
-use Rattle.roman_text.proofs.Common.{Bool, Err, List, Ok, Result, [], ap, arith, codes, cond, false, length, refl, sym, true, ℕ, ◌&&◌, ◌<◌, ◌∙◌, ◌∷◌, ◌≡◌, ◌≤◌, Form, TooLong, LineError, LineShape, abort, request, by_words, die, explain, freeze, delegate, is_comment, join, jump, jump_env, nothing, quit, report, observe, shape_of, shape_of_words, spelling, thaw, with_four, words_of, by_test, bytes_eq, bytes_eq-Decides, kept, le-ltb, ltb, strip_carriage_return}
+use Rattle.roman_text.proofs.Common.{Bool, Err, List, Ok, Result, [], ap, arith, codes, cond, false, length, refl, sym, true, ℕ, ◌&&◌, ◌<◌, ◌∙◌, ◌∷◌, ◌≡◌, ◌≤◌, Form, TooLong, LineError, LineShape, abort, request, by_words, die, explain, freeze, delegate, is_comment, join, jump, jump_env, nothing, quit, report, observe, shape_of, shape_of_words, spelling, thaw, with_four, words_of, by_test, bytes_eq, bytes_eq-Decides, line_head, le-ltb, ltb, strip_carriage_return}
 use borrow.Author.Tests.{lt-ltb}
-use Rattle.roman_text.proofs.LineLemmas.{kept-short, length-kept}
+use Rattle.roman_text.proofs.LineLemmas.{line_head-short, length-line_head}
 
 -- a line of more than 256 bytes is an error
 pub too_long : (line : List ℕ) → 256 < length line → shape_of line ≡ Err TooLong
@@ -13,13 +13,13 @@ pub shape_by_words : (line : List ℕ) → length line ≤ 256 → shape_of line
 unfolding shape_of
 shape_by_words line h = rw (le-ltb 256 (length line) h)
 
-kept_step : (b : Bool) (line : List ℕ) → ltb 256 (length line) ≡ b → shape_of (kept line) ≡ shape_of line
-kept_step true line e = grind (arith, length-kept, too_long)
-kept_step false line e = grind (arith, kept-short)
+head_step : (b : Bool) (line : List ℕ) → ltb 256 (length line) ≡ b → shape_of (line_head line) ≡ shape_of line
+head_step true line e = grind (arith, length-line_head, too_long)
+head_step false line e = grind (arith, line_head-short)
 
 -- the kept part of a line has the shape of the line
-pub shape_of_kept : (line : List ℕ) → shape_of (kept line) ≡ shape_of line
-shape_of_kept line = kept_step (ltb 256 (length line)) line refl
+pub shape_of_line_head : (line : List ℕ) → shape_of (line_head line) ≡ shape_of line
+shape_of_line_head line = head_step (ltb 256 (length line)) line refl
 
 -- a line without words has the shape that gets no reply
 pub shape_of_blank : (line text : List ℕ) → length line ≤ 256 → text ≡ strip_carriage_return line → words_of text ≡ [] → shape_of line ≡ Ok nothing

@@ -29,5 +29,5 @@ IsFirstLine bytes None = IsLine bytes
 IsFirstLine bytes (Some first) = IsLine first.0.now × (bytes ≡ first.0.now ++ 10 ∷ first.1.now)
 
 -- the part of a line that decides its shape: one byte more than the greatest length of a line
-unfoldable pub kept : List ℕ → List ℕ
-kept line = take 257 line
+unfoldable pub line_head : List ℕ → List ℕ
+line_head line = take 257 line

@@ -2,7 +2,7 @@
 //! body.
 ghost use Rattle.std.specs.Prelude.{◌≡◌, ◌≢◌, ℕ, List};
 ghost use Rattle.roman_model.specs.Lines.{ended_lines};
-ghost use Rattle.roman_text.specs.Lines.{IsSplit, unfinished, kept};
+ghost use Rattle.roman_text.specs.Lines.{IsSplit, unfinished, line_head};
 ghost use Rattle.roman_text.specs.Shapes.{LineShape, Words, nothing, spelling, shape_of, shape_of_words};
 ghost use Rattle.roman_text.specs.declared.errors.LineError.TheVariants.{Form};
 
@@ -27,7 +27,7 @@ pub fn spell_events()
 {}
 
 /// The part of a line that a splitter holds has the same shape as the whole line.
-#[tactic(auto, using(crate::proofs::ShapeLemmas::shape_of_kept))]
+#[tactic(auto, using(crate::proofs::ShapeLemmas::shape_of_line_head))]
 pub fn keep_shapes()
-    ensures kept { (line : List ℕ) → shape_of (kept line) ≡ shape_of line }
+    ensures kept { (line : List ℕ) → shape_of (line_head line) ≡ shape_of line }
 {}

@@ -2,7 +2,7 @@
 ghost use Rattle.std.specs.Prelude.{◌≡◌, ◌+◌, ◌<◌, ◌≤◌, ◌++◌, ◌∷◌, [], Some, length, position, nat_lt};
 ghost use Rattle.roman_text.specs.declared.lines.TheConstants.{LANES};
 ghost use Rattle.std.specs.Bool.{OnTrue, OnFalse};
-ghost use Rattle.roman_text.specs.Lines.{IsFirstLine, is_newline, kept};
+ghost use Rattle.roman_text.specs.Lines.{IsFirstLine, is_newline, line_head};
 
 use roman_model::MAX_LINE_BYTES;
 use std::marker::Model;
@@ -87,7 +87,7 @@ impl Splitter {
     pub fn push(&mut self, byte: u8) -> bool
         ensures ends { result ≡ is_newline byte }
         ensures whole { OnTrue result (self.new ≡ self.old) }
-        ensures goes_on { OnFalse result (self.new ≡ kept (self.old ++ byte ∷ [])) }
+        ensures goes_on { OnFalse result (self.new ≡ line_head (self.old ++ byte ∷ [])) }
     {
         if byte == b'\n' {
             return true;
@@ -99,7 +99,7 @@ impl Splitter {
     /// Takes the next bytes of the current line.
     #[tactic(auto, using(crate::proofs::LineLemmas::hold_room))]
     pub fn hold(&mut self, bytes: &[u8])
-        ensures { self.new ≡ kept (self.old ++ bytes.now) }
+        ensures { self.new ≡ line_head (self.old ++ bytes.now) }
     {
         let len = bytes.len().min(self.room());
         self.add(&bytes[..len]);

@@ -1,5 +1,5 @@
 -- The text of `advise` is right by the greatest ND-simulation and by plans.
-use Rattle.roman_top.proofs.Common.{ℕ, List, sym, subst, arith, Texts, Pair, IsSys, IsPair, is_related, related_count, by_test, related_great, great_related, NamedSys, system_of, PlainLibrary, parts_of, start_pair_of, Advising, advised_by, Listed, SaysAdvice, DoesAdvise, Status, TellsLeast, seat_costs, advice_least, AdvisesBy, KeepsAdvise, related_counted}
+use Rattle.roman_top.proofs.Common.{ℕ, List, sym, subst, arith, Texts, Pair, IsSys, IsPair, is_related, related_count, by_test, related_great, great_related, NamedSys, system_of, PlainLibrary, parts_of, start_pair_of, Advising, advised_by, Listed, SaysAdvice, DoesAdvise, Status, TellsLeast, seat_costs, advice_least, AdvisesBy, FulfilsAdvise, related_counted}
 use Rattle.roman_top.proofs.AdviseLemmas.{advised_unrelated, advised_many, advised_told}
 
 -- the text by accepted costs keeps its promise
@@ -16,6 +16,6 @@ advises_by n listed requests p text result ok pair says = record {
       (subst (TellsLeast n (seat_costs n listed) requests p) (sym told.0) (advice_least n listed requests p ok pair great), told.1);
 }
 
-pub keeps_advice : (costs : List ℕ) (requests : ℕ) (texts : Texts) (library : PlainLibrary) (text : List ℕ) (result : Status) →
-    IsSys (system_of (parts_of library)) → IsPair (system_of (parts_of library)) (start_pair_of library) → DoesAdvise costs requests texts library text result → KeepsAdvise costs requests texts library text result
-keeps_advice costs requests texts library text result ok pair gives = grind (arith, advises_by)
+pub fulfils_advice : (costs : List ℕ) (requests : ℕ) (texts : Texts) (library : PlainLibrary) (text : List ℕ) (result : Status) →
+    IsSys (system_of (parts_of library)) → IsPair (system_of (parts_of library)) (start_pair_of library) → DoesAdvise costs requests texts library text result → FulfilsAdvise costs requests texts library text result
+fulfils_advice costs requests texts library text result ok pair gives = grind (arith, advises_by)

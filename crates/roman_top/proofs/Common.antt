@@ -104,14 +104,14 @@ pub use Rattle.roman_top.specs.Command.{Advise, Certify, Check, Command, Job, Ma
 pub use Rattle.roman_top.specs.Complete.{AnswersWherePossible, CanAnswer, IsAnswered, IsUndisturbed, Suffices}
 pub use Rattle.roman_top.specs.Endings.{DoesJob, FindsVerdict, GoesOnFrom, RunsText, IsTooLong, Prints, run_status, status_of}
 pub use Rattle.roman_top.specs.Faults.{AtMemory, AtReadFault, AtShelfFault, AtWriteFault, EndsInput, HasAnswered, HasAnsweredInput, HasAnsweredPrefix, HasPrefixOfTaken, HasRunPrefix, IsFree, IsOfSession, IsOfTaken, TakesInput}
-pub use Rattle.roman_top.specs.Headline.{HasHeadline, HasReported, KeepsPromise}
-pub use Rattle.roman_top.specs.HeadlineAdvise.{AdvisesBy, KeepsAdvise}
+pub use Rattle.roman_top.specs.Headline.{HasHeadline, HasReported, FulfilsPromise}
+pub use Rattle.roman_top.specs.HeadlineAdvise.{AdvisesBy, FulfilsAdvise}
 pub use Rattle.roman_top.specs.HeadlineCertify.{AreValid, CertifiesUnrelated, HoldsReason, ListsUnrelated, numbered_entry}
 pub use Rattle.roman_top.specs.HeadlineCheck.{JudgesCertificate, TellsGreatest, certified_entries}
-pub use Rattle.roman_top.specs.HeadlineJobs.{KeepsJob, KeepsText}
-pub use Rattle.roman_top.specs.HeadlineMake.{KeepsMake, TellsStages, TellsStanding}
+pub use Rattle.roman_top.specs.HeadlineJobs.{FulfilsJob, FulfilsText}
+pub use Rattle.roman_top.specs.HeadlineMake.{FulfilsMake, TellsStages, TellsStanding}
 pub use Rattle.roman_top.specs.HeadlineResilience.{AreFailing, AreServings, IsRightOutlook, IsServing, Serving, TellsLosses}
-pub use Rattle.roman_top.specs.HeadlineTargets.{HasAnsweredTargets, IsTurnOfTargets, KeepsTargets, MeansTargets, MovesOne, OffersServingAll, TargetAction, TellsTarget, couple_now}
+pub use Rattle.roman_top.specs.HeadlineTargets.{HasAnsweredTargets, IsTurnOfTargets, FulfilsTargets, MeansTargets, MovesOne, OffersServingAll, TargetAction, TellsTarget, couple_now}
 pub use Rattle.roman_top.specs.HeadlineTurns.{AreTurns, HasAnsweredLines, Means, Turn, after_turns}
 pub use Rattle.roman_top.specs.MakeText.{Passes, made_line, stage_line, stages, standing}
 pub use Rattle.roman_top.specs.ResilienceText.{head_text, line_without, ones, outlook_words, service_names, twos, way_word}

@@ -1,6 +1,6 @@
 -- The text of a session keeps its promise.
-use Rattle.roman_top.proofs.Common.{◌≡◌, ℕ, List, length, take, nat_le, Option, Some, sym, subst, arith, if◌then◌else◌, Texts, Wrote, GreatestIsComplete, lines, ended_lines, IsIn, MAX_SESSION_BYTES, PlainLibrary, Situation, report_text, parts_of, start_pair_of, Answers, State, start_state, IsState, LinesAreRead, Synth, Run, Command, On, IsFree, MeansTargets, IsTurnOfTargets, KeepsTargets, HasAnsweredTargets, Turn, Means, HasAnsweredLines, Accepted, document_opening, DoesRun, DoesSynth, HasRun, Served, World, Status, PlainTargets, NamesTargets, library_of, targets_combined, ReportsGreat, reports_great, answered_heard, KeepsPromise, HasHeadline, HasReported, work_of, opens_within, IfSome_then}
-use Rattle.roman_top.proofs.JobLemmas.{keeps_text}
+use Rattle.roman_top.proofs.Common.{◌≡◌, ℕ, List, length, take, nat_le, Option, Some, sym, subst, arith, if◌then◌else◌, Texts, Wrote, GreatestIsComplete, lines, ended_lines, IsIn, MAX_SESSION_BYTES, PlainLibrary, Situation, report_text, parts_of, start_pair_of, Answers, State, start_state, IsState, LinesAreRead, Synth, Run, Command, On, IsFree, MeansTargets, IsTurnOfTargets, FulfilsTargets, HasAnsweredTargets, Turn, Means, HasAnsweredLines, Accepted, document_opening, DoesRun, DoesSynth, HasRun, Served, World, Status, PlainTargets, NamesTargets, library_of, targets_combined, ReportsGreat, reports_great, answered_heard, FulfilsPromise, HasHeadline, HasReported, work_of, opens_within, IfSome_then}
+use Rattle.roman_top.proofs.JobLemmas.{fulfils_text}
 use Rattle.roman_top.proofs.StartsKnown.{starts_known, some_start}
 use Rattle.roman_top.proofs.TargetLemmas.{means_targets, steps_tell}
 use Rattle.roman_top.proofs.TurnLemmas.{StepsTell, HasTurns, state_known, start_seen, start_from, turns_of}
@@ -47,31 +47,31 @@ answered_lines P texts system name library old new result read tell means run =
     )
 
 -- a run keeps the promise
-keeps_promise : (asked : Option Command) (old new : World) (result : Status) → LinesAreRead → Served asked old new result → IsFree result → KeepsPromise asked old new
-keeps_promise (Some (On system Synth)) old new result read served free =
+fulfils_promise : (asked : Option Command) (old new : World) (result : Status) → LinesAreRead → Served asked old new result → IsFree result → FulfilsPromise asked old new
+fulfils_promise (Some (On system Synth)) old new result read served free =
     IfSome_then _ {Q = (λ texts. (library : PlainLibrary) → Means texts system library → HasReported library old new)} (served.run free) (λ texts run library means.
     let accepted = means_accepted texts system library means in
     let (start, great) = reported texts system library run.text accepted (work_of DoesSynth (document_opening texts system) library run.text result accepted run.run).0 in
     record { start = start; text = run.text; great = great; wrote = run.wrote })
-keeps_promise (Some (On system (Run name))) old new result read served free =
+fulfils_promise (Some (On system (Run name))) old new result read served free =
     IfSome_then _ {Q = (λ texts. (library : PlainLibrary) → Means texts system library → HasAnsweredLines (Some (On system (Run name))) library texts old new)} (served.run free) (λ texts run library means.
     (answered_lines (λ x. Unit {0}) texts system name library old new result read (λ s mid line said from known onward next turn. tt) means run).0)
-keeps_promise _ old new result read served free = tt
+fulfils_promise _ old new result read served free = tt
 
 -- if a document names several targets, a run keeps the promise target by target
-keeps_targets : (asked : Option Command) (old new : World) (result : Status) → LinesAreRead → Served asked old new result → IsFree result → KeepsTargets asked old new
-keeps_targets (Some (On system Synth)) old new result read served free =
+fulfils_targets : (asked : Option Command) (old new : World) (result : Status) → LinesAreRead → Served asked old new result → IsFree result → FulfilsTargets asked old new
+fulfils_targets (Some (On system Synth)) old new result read served free =
     IfSome_then _ {Q = (λ texts. (library : PlainLibrary) (said : PlainTargets) → Means texts system library → NamesTargets texts system said → MeansTargets said (start_state library))} (served.run free) (λ texts run library said means names.
     let accepted = means_accepted texts system library means in
     let (start, begins) = some_start texts system library accepted in
     subst (MeansTargets said) (start_seen library start begins)
     (means_targets said library start (targets_combined texts system library said means.0 names) (start_from library start begins) (starts_known texts system library start accepted begins)))
-keeps_targets (Some (On system (Run name))) old new result read served free =
+fulfils_targets (Some (On system (Run name))) old new result read served free =
     IfSome_then _ {Q = (λ texts. (library : PlainLibrary) (said : PlainTargets) → Means texts system library → NamesTargets texts system said → HasAnsweredTargets (Some (On system (Run name))) library said texts old new)} (served.run free)
     (λ texts run library said means names.
     let (answered, each) = answered_lines (IsTurnOfTargets said) texts system name library old new result read (steps_tell said library (targets_combined texts system library said means.0 names)) means run in
     record { answered = answered; each = each })
-keeps_targets _ old new result read served free = tt
+fulfils_targets _ old new result read served free = tt
 
 pub has_headline : (asked : Option Command) (old new : World) (result : Status) → LinesAreRead → GreatestIsComplete → Served asked old new result → HasHeadline asked old new result
-has_headline asked old new result read complete served free = (keeps_promise asked old new result read served free, keeps_targets asked old new result read served free, keeps_text read complete asked old new result served free)
+has_headline asked old new result read complete served free = (fulfils_promise asked old new result read served free, fulfils_targets asked old new result read served free, fulfils_text read complete asked old new result served free)

@@ -1,5 +1,5 @@
 -- The session of a made system goes from stage to stage by turns.
-use Rattle.roman_top.proofs.Common.{◌≡◌, ℕ, List, [], ◌∷◌, refl, sym, ap, subst, is_related, related_count, length-pairs, PlainLibrary, Situation, present_system, shape_of, words_of, until_quit, Answers, shown, IsKnownSituation, State, LinesAreRead, made, standing, stages, Passes, stage_line, DoesMake, Status, TellsStanding, TellsStages, KeepsMake}
+use Rattle.roman_top.proofs.Common.{◌≡◌, ℕ, List, [], ◌∷◌, refl, sym, ap, subst, is_related, related_count, length-pairs, PlainLibrary, Situation, present_system, shape_of, words_of, until_quit, Answers, shown, IsKnownSituation, State, LinesAreRead, made, standing, stages, Passes, stage_line, DoesMake, Status, TellsStanding, TellsStages, FulfilsMake}
 use Rattle.roman_top.proofs.ServingLemmas.{outlook_right}
 use Rattle.roman_top.proofs.TurnLemmas.{IsFrom, start_seen, start_from, turns_of}
 
@@ -39,8 +39,8 @@ stages_told library s (stage ∷ more) text read from known (quitless, others) (
     )
 
 -- a summary keeps its promise
-pub keeps_made : (n : ℕ) (text : List ℕ) (result : Status) → LinesAreRead → DoesMake n text result → KeepsMake n text result
-keeps_made n text result read (made_of, done) = record {
+pub fulfils_made : (n : ℕ) (text : List ℕ) (result : Status) → LinesAreRead → DoesMake n text result → FulfilsMake n text result
+fulfils_made n text result read (made_of, done) = record {
   rest = made_of.rest;
   tells = subst (λ (s : State). TellsStages (made n) s stages made_of.rest) (start_seen (made n) made_of.start made_of.begins)
       (stages_told (made n) made_of.start stages made_of.rest read (start_from (made n) made_of.start made_of.begins) made_of.known script_quitless made_of.passes);

@@ -7,8 +7,8 @@ use Rattle.roman_session.specs.Words.{ReportsGreat}
 use Rattle.roman_opening.specs.declared.status.Status.{Status}
 use Rattle.roman_top.specs.Command.{Synth, Run, Command, On}
 use Rattle.roman_top.specs.Faults.{IsFree}
-use Rattle.roman_top.specs.HeadlineJobs.{KeepsText}
-use Rattle.roman_top.specs.HeadlineTargets.{KeepsTargets}
+use Rattle.roman_top.specs.HeadlineJobs.{FulfilsText}
+use Rattle.roman_top.specs.HeadlineTargets.{FulfilsTargets}
 use Rattle.roman_top.specs.HeadlineTurns.{Means, HasAnsweredLines}
 use Rattle.roman_top.specs.World.{World}
 
@@ -20,13 +20,13 @@ pub record HasReported (library : PlainLibrary) (old new : World) : Type 0 where
   pub wrote : Wrote old.written new.written text
 
 -- the promise of a session and of a synthesis of an accepted document within its limit, if the shelf's type exposes its texts
-abbrev pub KeepsPromise : Option Command → World → World → Type 0
-KeepsPromise (Some (On system (Run name))) old new =
+abbrev pub FulfilsPromise : Option Command → World → World → Type 0
+FulfilsPromise (Some (On system (Run name))) old new =
     IfSome old.texts (λ texts. (library : PlainLibrary) → Means texts system library → HasAnsweredLines (Some (On system (Run name))) library texts old new)
-KeepsPromise (Some (On system Synth)) old new = IfSome old.texts (λ texts. (library : PlainLibrary) → Means texts system library → HasReported library old new)
-KeepsPromise _ old new = Unit {0}
+FulfilsPromise (Some (On system Synth)) old new = IfSome old.texts (λ texts. (library : PlainLibrary) → Means texts system library → HasReported library old new)
+FulfilsPromise _ old new = Unit {0}
 
 -- unless a fault or running out of memory ended the run, it keeps the promise, the promise target by target, and the promise of each other
 -- command; `Runs` states the status of `run` and of `synth`
 abbrev pub HasHeadline : Option Command → World → World → Status → Type 0
-HasHeadline asked old new result = IsFree result → KeepsPromise asked old new × KeepsTargets asked old new × KeepsText asked old new result
+HasHeadline asked old new result = IsFree result → FulfilsPromise asked old new × FulfilsTargets asked old new × FulfilsText asked old new result

@@ -32,6 +32,6 @@ pub record AdvisesBy (n : NamedSys) (listed : List Listed) (requests : ℕ) (p :
   pub told : Great (system_of n) p → related * requests ≤ MAX_VALUES → TellsLeast n (seat_costs n listed) requests p text × (result ≡ status.Done)
 
 -- advise: the refusal line of the costs if they are refused; otherwise the advice for the starting states
-pub record KeepsAdvise (costs : List ℕ) (requests : ℕ) (texts : Texts) (library : PlainLibrary) (text : List ℕ) (result : Status) : Type 0 where
+pub record FulfilsAdvise (costs : List ℕ) (requests : ℕ) (texts : Texts) (library : PlainLibrary) (text : List ℕ) (result : Status) : Type 0 where
   pub refused : (error : PartError) → costs_of texts costs (parts_of library) ≡ Err error → EndsSaying (refusal_line (refusal_of costs part.Costs error)) status.Refused text result
   pub advised : (listed : List Listed) → costs_of texts costs (parts_of library) ≡ Ok listed → AdvisesBy (parts_of library) listed requests (start_pair_of library) text result

@@ -43,5 +43,5 @@ pub record CertifiesUnrelated (s : Sys) (text : List ℕ) : Type 0 where
   pub says : text ≡ cert_text (length (pairs s)) (map (numbered_entry s) entries)
 
 -- certify: the text is a certificate of the library's system
-abbrev pub KeepsCertify : PlainLibrary → List ℕ → Status → Type 0
-KeepsCertify library text result = CertifiesUnrelated (library_system library) text × (result ≡ status.Done)
+abbrev pub FulfilsCertify : PlainLibrary → List ℕ → Status → Type 0
+FulfilsCertify library text result = CertifiesUnrelated (library_system library) text × (result ≡ status.Done)

@@ -37,5 +37,5 @@ pub record JudgesCertificate (s : Sys) (p : Pair) (certificate text : List ℕ) 
   pub others : (result ≡ status.Done → ⊥) → ((line : ℕ) × (why : Why) × (text ≡ rejected_text line why) × (result ≡ status.No)) ⊎ ((text ≡ []) × (result ≡ status.TooLong))
 
 -- check: the verdict on the certificate for the library's system
-abbrev pub KeepsCheck : List ℕ → PlainLibrary → List ℕ → Status → Type 0
-KeepsCheck certificate library text result = JudgesCertificate (library_system library) (start_pair_of library) certificate text result
+abbrev pub FulfilsCheck : List ℕ → PlainLibrary → List ℕ → Status → Type 0
+FulfilsCheck certificate library text result = JudgesCertificate (library_system library) (start_pair_of library) certificate text result

@@ -28,7 +28,7 @@ TellsStages library s (stage ∷ more) text =
     × TellsStages library (after_turns s turns) more rest × (text ≡ line ++ rest)
 
 -- make: the figures of the session of the made system at its start, and after the lines of each stage of the script
-pub record KeepsMake (n : ℕ) (text : List ℕ) (result : Status) : Type 0 where
+pub record FulfilsMake (n : ℕ) (text : List ℕ) (result : Status) : Type 0 where
   pub rest : List ℕ
   pub tells : TellsStages (made n) (start_state (made n)) stages rest
   pub says : text ≡ made_line n ++ rest

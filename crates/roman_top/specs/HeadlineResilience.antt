@@ -60,5 +60,5 @@ pub record TellsLosses (parts : NamedSys) (s : Sys) (p : Pair) (text : List ℕ)
       ++ (flat_map (loss_lines parts left) (ones (length parts.seats)) ++ (flat_map (loss_lines parts left) (twos (length parts.seats)) ++ codes "end\n"))
 
 -- resilience: the outlooks of the library's starting states
-abbrev pub KeepsResilience : PlainLibrary → List ℕ → Status → Type 0
-KeepsResilience library text result = TellsLosses (parts_of library) (library_system library) (start_pair_of library) text × (result ≡ status.Done)
+abbrev pub FulfilsResilience : PlainLibrary → List ℕ → Status → Type 0
+FulfilsResilience library text result = TellsLosses (parts_of library) (library_system library) (start_pair_of library) text × (result ≡ status.Done)

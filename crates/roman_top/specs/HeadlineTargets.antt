@@ -134,10 +134,10 @@ pub record HasAnsweredTargets (requested : Option Command) (library : PlainLibra
   pub each : (x : Turn) → IsIn x answered.turns → IsTurnOfTargets said x
 
 -- the promise of a session, and of the state on which a synthesis reports, if the document names several targets
-abbrev pub KeepsTargets : Option Command → World → World → Type 0
-KeepsTargets (Some (On system (Run name))) old new =
+abbrev pub FulfilsTargets : Option Command → World → World → Type 0
+FulfilsTargets (Some (On system (Run name))) old new =
     IfSome old.texts (λ texts. (library : PlainLibrary) (said : PlainTargets) → Means texts system library → NamesTargets texts system said →
     HasAnsweredTargets (Some (On system (Run name))) library said texts old new)
-KeepsTargets (Some (On system Synth)) old new =
+FulfilsTargets (Some (On system Synth)) old new =
     IfSome old.texts (λ texts. (library : PlainLibrary) (said : PlainTargets) → Means texts system library → NamesTargets texts system said → MeansTargets said (start_state library))
-KeepsTargets _ old new = Unit {0}
+FulfilsTargets _ old new = Unit {0}

@@ -1,6 +1,6 @@
 -- A part that is loaded is appended to those before it, and an error of a part is the result of all parts.
 use Rattle.roman_library.proofs.Common.{arith, refl, rules, subst, sym, ◌∙◌, err_from_is_err_and, goes_on, is_done, listed_step}
-use Rattle.roman_library.proofs.PlacedLemmas.{stops_all, stops_left}
+use Rattle.roman_library.proofs.LocatedLemmas.{stops_all, stops_left}
 use Rattle.roman_library.proofs.listing.load_items.Goals as goal
 
 pub returns-in_err-part-clause-parts : goal.returns-in_err-part-clause-parts

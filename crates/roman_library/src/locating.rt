@@ -1,5 +1,5 @@
 //! Refusals of parts, with their document and part.
-ghost use Rattle.roman_library.specs.Refusals.{Places, PlacesError};
+ghost use Rattle.roman_library.specs.Refusals.{Locates, LocatesError};
 
 use crate::file_name::FileName;
 use crate::refusal::{LoadError, Part, Refusal};
@@ -7,23 +7,23 @@ use roman_parts::PartError;
 use std::alloc::Global;
 
 /// Returns the value that was read, or the refusal with its document and part.
-pub(crate) fn placed<T>(
+pub(crate) fn located<T>(
     alloc: Global,
     document: &str,
     part: Part,
     read: Result<T, PartError>,
 ) -> Result<T, LoadError>
-    ensures { Places document.now part read result }
+    ensures { Locates document.now part read result }
 {
     match read {
         Ok(value) => Ok(value),
-        Err(error) => Err(place(alloc, document, part, error)),
+        Err(error) => Err(locate_error(alloc, document, part, error)),
     }
 }
 
 /// Returns the refusal with its document and part.
-fn place(alloc: Global, document: &str, part: Part, error: PartError) -> LoadError
-    ensures { PlacesError document.now part error result }
+fn locate_error(alloc: Global, document: &str, part: Part, error: PartError) -> LoadError
+    ensures { LocatesError document.now part error result }
 {
     let (kind, list, index) = match error {
         PartError::Refused { kind, list, index } => (kind, list, index),
