@@ -34,7 +34,7 @@ pub struct Advice {
     values: Vec<u32>,
 }
 
-// Replaces the derived drop, which adds a proof step for each vector to every exit.
+// One proof step. A derived drop is a step for each vector, at each exit of a function that owns it.
 impl Drop for Advice {
     fn drop(self) {
         let Advice {

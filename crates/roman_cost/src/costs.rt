@@ -28,7 +28,7 @@ pub struct Costs {
     cells: Vec<Option<u32>>,
 }
 
-// Replaces the derived drop, which adds a proof step for each vector to every exit.
+// One proof step. A derived drop is a step for each vector, at each exit of a function that owns it.
 impl Drop for Costs {
     fn drop(self) {
         let Costs {

@@ -59,7 +59,7 @@ pub struct Order {
     levels: Vec<u32>,
 }
 
-// One call. A derived drop would be a step for each vector at each exit of an owning function.
+// One proof step. A derived drop is a step for each vector, at each exit of a function that owns it.
 impl Drop for Order {
     fn drop(self) {
         let Order {

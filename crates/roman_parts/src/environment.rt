@@ -28,7 +28,7 @@ pub struct Environment {
     prev: Rows,
 }
 
-// One step in proofs. A derived drop adds a step for each vector at each exit of an owner.
+// One proof step. A derived drop is a step for each vector, at each exit of a function that owns it.
 impl Drop for Environment {
     fn drop(self) {
         let Environment {

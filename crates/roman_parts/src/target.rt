@@ -27,7 +27,7 @@ pub struct Target {
     automaton: Automaton,
 }
 
-// One step in proofs. A derived drop adds a step for each vector at each exit of an owner.
+// One proof step. A derived drop is a step for each vector, at each exit of a function that owns it.
 impl Drop for Target {
     fn drop(self) {
         let Target {

@@ -32,7 +32,7 @@ pub struct Ranks {
     counts: Vec<u32>,
 }
 
-// One call. A derived drop would be a step for each vector at each exit of an owning function.
+// One proof step. A derived drop is a step for each vector, at each exit of a function that owns it.
 impl Drop for Ranks {
     fn drop(self) {
         let Ranks {

@@ -18,7 +18,7 @@ pub struct NameTable {
     names: IndexSet<Name>,
 }
 
-// One step in proofs. A derived drop adds a step for each vector at each exit of an owner.
+// One proof step. A derived drop is a step for each vector, at each exit of a function that owns it.
 impl Drop for NameTable {
     fn drop(self) {
         let NameTable { names: _ } = self;

@@ -49,7 +49,7 @@ pub struct Session {
     mask: SeatSet,
 }
 
-// Replaces the derived drop, which adds a proof step for each vector to every exit.
+// One proof step. A derived drop is a step for each vector, at each exit of a function that owns it.
 impl Drop for Session {
     fn drop(self) {
         let Session {

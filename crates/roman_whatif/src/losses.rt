@@ -37,7 +37,7 @@ pub struct Losses {
     pub gone: Vec<Outlook>,
 }
 
-// One call. A derived drop would be a step for each vector at each exit of an owning function.
+// One proof step. A derived drop is a step for each vector, at each exit of a function that owns it.
 impl Drop for Losses {
     fn drop(self) {
         let Losses {
