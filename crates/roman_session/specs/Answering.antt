@@ -1,7 +1,8 @@
 -- How a session answers a line, and which bytes it writes.
-use Rattle.std.specs.Prelude.{◌≡◌, ◌≢◌, ℕ, List, [], ◌++◌, Option, Result, Ok, if◌then◌else◌}
+use Rattle.std.specs.Prelude.{◌≡◌, ◌≢◌, ℕ, List, [], ◌++◌, Option, Result, Ok, IfOk, if◌then◌else◌}
 use Rattle.roman_model.specs.Offers.{offers}
 use Rattle.roman_io.specs.Sink.{Puts}
+use Rattle.roman_io.specs.declared.sink.Sink.{Ghosts as SinkView}
 use Rattle.roman_text.specs.Pages.{Gathers}
 use Rattle.roman_text.specs.Shapes.{LineShape, observe, shape_of}
 use Rattle.roman_text.specs.declared.errors.LineError.{LineError}
@@ -32,6 +33,14 @@ pub record DoneOn {T E : Type 0} (old : Situation) (shape : LineShape) (new : Si
   pub step : StepOn old shape text new
   pub gathers : Gathers before after holds (held ++ text) result
 
+-- such an answer to a line, in words for contracts at a bound `O: Sink`
+abbrev pub AnswersOn : {X T E : Type 0} → SinkView X → Situation → List ℕ → Situation → X → X → List ℕ → List ℕ → Result T E → Type 0
+AnswersOn O old line new out out_now held holds result = AnsweredOn old line new (O.written out) (O.written out_now) held holds result
+
+-- such an answer to an event, in words for contracts at a bound `O: Sink`
+abbrev pub DoesOn : {X T E : Type 0} → SinkView X → Situation → LineShape → Situation → X → X → List ℕ → List ℕ → Result T E → Type 0
+DoesOn O old shape new out out_now held holds result = DoneOn old shape new (O.written out) (O.written out_now) held holds result
+
 -- at least one service is offered for each action that the target allows at a related pair
 abbrev pub NamesSome : Situation → Type 0
 NamesSome old = (a : ℕ) → IsGreat (shown old) → MayRequest (shown old) a → offers (present_system old) old.here a ≢ []
@@ -47,3 +56,7 @@ next_after shape = if is_quit shape then Quit else More
 -- whether a session continues after a line
 abbrev pub next_of : List ℕ → Next
 next_of line = next_after (shape_of line)
+
+-- the result has what comes after the line
+abbrev pub IsNextOf : {E : Type 0} → List ℕ → Result Next E → Type 0
+IsNextOf line result = IfOk result (λ next. next ≡ next_of line)

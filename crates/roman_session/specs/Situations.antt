@@ -1,5 +1,5 @@
 -- The situation of a session between two lines.
-use Rattle.std.specs.Prelude.{ℕ, List, IsTrue}
+use Rattle.std.specs.Prelude.{ℕ, ◌<◌, List, IfSome, IsTrue, slice_get}
 use Rattle.roman_model.specs.Lists.{IsIn}
 use Rattle.roman_model.specs.System.{Sys, Pair, IsPair}
 use Rattle.roman_model.specs.SystemArena.{is_allowed}
@@ -22,6 +22,10 @@ pub record Situation : Type 0 where
 -- the system of the services now present
 abbrev pub present_system : Situation → Sys
 present_system s = joint.system_of s.parts
+
+-- b is a state of the service at place k, if there is such a service
+abbrev pub IsStateAt : Situation → ℕ → ℕ → Type 0
+IsStateAt s k b = IfSome (slice_get (present_system s).seats k) (λ seat. b < seat.beh.states)
 
 -- ---- phases
 

@@ -45,6 +45,10 @@ abbrev pub RepairsList : Situation → List ℕ → (ℕ → model.Seat → Chan
 RepairsList old service change text new =
     (new ≡ old) ⊎ ((k : ℕ) × IsAt old service k × ((seat : model.Seat) × (slice_get (present_system old).seats k ≡ Some seat) × IsRepair old (change k seat) text new))
 
+-- the explanation of the current pair
+abbrev pub explanation_of : Situation → List ℕ
+explanation_of s = explain_text (present_system s) (names_in s.parts) s.list s.here
+
 -- the effect of an event on the removal list: a change of the services repairs it, unless it is refused; an explanation gives
 -- the part of it on which the current pair's entry rests; every other event leaves it
 abbrev pub ListAfter : Situation → Result LineShape LineError → List ℕ → Situation → Type 0
@@ -54,7 +58,7 @@ ListAfter old (Ok (die service)) text new = RepairsList old service (change_at k
 ListAfter old (Ok (join service behaviour state loose)) text new =
     (new ≡ old) ⊎ ((seat : Seat) × (new.parts.seats ≡ old.parts.seats ++ seat ∷ []) × IsRepair old (Join (seat_of old.parts.catalogue seat)) text new)
 ListAfter old (Ok explain) text new =
-    (IsGreat (shown old) ⊎ (text ≡ explain_text (present_system old) (names_in old.parts) old.list old.here)) × (new.list ≡ old.list)
+    (IsGreat (shown old) ⊎ (text ≡ explanation_of old)) × (new.list ≡ old.list)
 ListAfter old _ text new = new.list ≡ old.list
 
 -- ---- steps

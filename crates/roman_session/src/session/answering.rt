@@ -1,14 +1,12 @@
 //! The replies to lines.
-ghost use Rattle.std.specs.Prelude.{◌≡◌, ◌++◌, Ok, IfOk};
-ghost use Rattle.roman_io.specs.Faults.{HasCause};
-ghost use Rattle.roman_text.specs.Pages.{Gathers};
-ghost use Rattle.roman_model.specs.Explanation.{explain_text};
-ghost use Rattle.roman_joint.specs.Names.{names_in};
+ghost use Rattle.std.specs.Prelude.{◌≡◌, ◌++◌, Ok};
+ghost use Rattle.roman_io.specs.SinkCalls.{FailsWith};
 ghost use Rattle.roman_text.specs.Shapes.{explain, shape_of_event};
-ghost use Rattle.roman_session.specs.Situations.{present_system, IsPhase};
+ghost use Rattle.roman_session.specs.Situations.{IsPhase};
 ghost use Rattle.roman_session.specs.States.{IsGreat};
-ghost use Rattle.roman_session.specs.Steps.{shown};
-ghost use Rattle.roman_session.specs.Answering.{Answered, AnsweredOn, DoneOn, NamesSome, ObservedStaysGreat, next_after, next_of};
+ghost use Rattle.roman_session.specs.Steps.{shown, explanation_of};
+ghost use Rattle.roman_session.specs.Answering.{Answered, NamesSome, ObservedStaysGreat, next_after, AnswersOn, DoesOn, IsNextOf};
+ghost use Rattle.roman_text.specs.Pages.{Pushes};
 
 use super::Session;
 use crate::events::JoinWords;
@@ -43,8 +41,8 @@ impl Session {
         steps: &mut Steps<L>,
     ) -> Result<Next, Failed>
         ensures step { Answered self.old line.now self.new (O.written out.old) (O.written out.new) result }
-        ensures next { IfOk result (λ next. next ≡ next_of line.now) }
-        ensures cause { HasCause (O.faults out.old) (O.faults out.new) result }
+        ensures next { IsNextOf line.now result }
+        ensures cause { FailsWith O.Sink out.old out.new result }
 
         // An `offer` names a service, and after a possible outcome the current pair is related.
         ensures offered { NamesSome self.old }
@@ -72,10 +70,9 @@ impl Session {
         out: &mut O,
         steps: &mut Steps<L>,
     ) -> Result<Next, Failed>
-        ensures step { AnsweredOn self.old line.now self.new (O.written out.old) (O.written out.new)
-            page.old page.new result }
-        ensures next { IfOk result (λ next. next ≡ next_of line.now) }
-        ensures cause { HasCause (O.faults out.old) (O.faults out.new) result }
+        ensures step { AnswersOn O.Sink self.old line.now self.new out.old out.new page.old page.new result }
+        ensures next { IsNextOf line.now result }
+        ensures cause { FailsWith O.Sink out.old out.new result }
     {
         let event = match parse_line(line) {
             Ok(event) => event,
@@ -99,9 +96,9 @@ impl Session {
         out: &mut O,
         steps: &mut Steps<L>,
     ) -> Result<(), Failed>
-        ensures step { DoneOn self.old (shape_of_event event.entry) self.new (O.written out.old) (O.written out.new)
-            page.old page.new result }
-        ensures cause { HasCause (O.faults out.old) (O.faults out.new) result }
+        ensures step { DoesOn O.Sink self.old (shape_of_event event.entry)
+            self.new out.old out.new page.old page.new result }
+        ensures cause { FailsWith O.Sink out.old out.new result }
     {
         match event {
             Event::Nothing => Ok(()),
@@ -146,9 +143,8 @@ impl Session {
         out: &mut O,
         steps: &mut Steps<L>,
     ) -> Result<(), Failed>
-        ensures step { DoneOn self.old explain self.new (O.written out.old) (O.written out.new)
-            page.old page.new result }
-        ensures cause { HasCause (O.faults out.old) (O.faults out.new) result }
+        ensures step { DoesOn O.Sink self.old explain self.new out.old out.new page.old page.new result }
+        ensures cause { FailsWith O.Sink out.old out.new result }
     {
         self.known(); // the situation is well formed
         if self.is_great() {
@@ -166,11 +162,9 @@ impl Session {
         steps: &mut Steps<L>,
     ) -> Result<(), Failed>
         requires { IsGreat (shown self.old) → ⊥ }
-        ensures gathers { let s = self.old in
-            Gathers (O.written out.old) (O.written out.new) page.new
-            (page.old ++ explain_text (present_system s) (names_in s.parts) s.list s.here) result }
+        ensures gathers { Pushes O.Sink out.old out.new page.old page.new (explanation_of self.old) result }
         ensures stays { self.new ≡ self.old }
-        ensures cause { HasCause (O.faults out.old) (O.faults out.new) result }
+        ensures cause { FailsWith O.Sink out.old out.new result }
     {
         page.flush(out)?;
         let here = self.here();

@@ -1,14 +1,14 @@
 //! Freezes, thaws, removes and adds services.
 ghost use Rattle.std.specs.Prelude.{◌≡◌, ◌<◌, length, Some, slice_get, vec_capacity};
+ghost use Rattle.roman_io.specs.SinkCalls.{FailsWith};
 ghost use Rattle.roman_model.specs.System.{Seat};
 ghost use Rattle.roman_joint.specs.NamedSys.{system_of};
 ghost use Rattle.roman_relation.specs.Greatest.{IsRelation};
 ghost use Rattle.roman_repair.specs.Repairs.{IsRepaired};
-ghost use Rattle.roman_io.specs.Faults.{HasCause};
 ghost use Rattle.roman_text.specs.Replies.{reply_text};
 ghost use Rattle.roman_session.specs.Changes.{SuitsSeat, change_at, event_of, services_after, states_after};
 ghost use Rattle.roman_session.specs.Rules.{Joins, IsNewcomer, join_of};
-ghost use Rattle.roman_session.specs.Answering.{DoneOn};
+ghost use Rattle.roman_session.specs.Answering.{DoesOn};
 
 use super::{Session, number_of};
 use crate::events::{JoinWords, Joining, ServiceChange};
@@ -71,9 +71,9 @@ impl Session {
         out: &mut O,
         steps: &mut Steps<L>,
     ) -> Result<(), Failed>
-        ensures step { DoneOn self.old (event_of change service.now) self.new (O.written out.old) (O.written out.new)
-            page.old page.new result }
-        ensures cause { HasCause (O.faults out.old) (O.faults out.new) result }
+        ensures step { DoesOn O.Sink self.old (event_of change service.now)
+            self.new out.old out.new page.old page.new result }
+        ensures cause { FailsWith O.Sink out.old out.new result }
     {
         let k = match self.check_change(change, service) {
             Ok(k) => k,
@@ -94,9 +94,8 @@ impl Session {
         out: &mut O,
         steps: &mut Steps<L>,
     ) -> Result<(), Failed>
-        ensures step { DoneOn self.old (join_of words.entry) self.new (O.written out.old) (O.written out.new)
-            page.old page.new result }
-        ensures cause { HasCause (O.faults out.old) (O.faults out.new) result }
+        ensures step { DoesOn O.Sink self.old (join_of words.entry) self.new out.old out.new page.old page.new result }
+        ensures cause { FailsWith O.Sink out.old out.new result }
     {
         let joining = match self.check_join(words) {
             Ok(joining) => joining,

@@ -1,7 +1,7 @@
 //! Checks events. Each call returns what its event names, or the first refusal that applies.
-ghost use Rattle.std.specs.Prelude.{◌≡◌, ◌<◌, length, IfOk, IfSome, slice_get};
+ghost use Rattle.std.specs.Prelude.{◌≡◌, ◌<◌, length, IfOk};
 ghost use Rattle.roman_text.specs.Shapes.{request, delegate, observe, abort, jump, jump_env};
-ghost use Rattle.roman_session.specs.Situations.{present_system, IsPhase};
+ghost use Rattle.roman_session.specs.Situations.{present_system, IsPhase, IsStateAt};
 ghost use Rattle.roman_session.specs.States.{IsGreat, MayRequest};
 ghost use Rattle.roman_session.specs.Words.{IsReady};
 ghost use Rattle.roman_session.specs.Steps.{shown};
@@ -87,8 +87,7 @@ impl Session {
         ensures checks { ChecksEvent self.now (jump service.now state.now)
             (CanJump self.now service.now state.now) result }
         ensures seat { IfOk result (λ x. x.seat < length self.now.parts.seats) }
-        ensures state { IfOk result (λ x. IfSome (slice_get (present_system self.now).seats x.seat)
-            (λ seat. x.state < seat.beh.states)) }
+        ensures state { IfOk result (λ x. IsStateAt self.now x.seat x.state) }
     {
         let seat = self.service_place(service)?;
         let state = self.state_place(seat, state)?;

@@ -1,7 +1,7 @@
 //! Moves services and the environment to named states.
-ghost use Rattle.roman_io.specs.Faults.{HasCause};
 ghost use Rattle.roman_text.specs.Shapes.{jump, jump_env};
-ghost use Rattle.roman_session.specs.Answering.{DoneOn};
+ghost use Rattle.roman_io.specs.SinkCalls.{FailsWith};
+ghost use Rattle.roman_session.specs.Answering.{DoesOn};
 
 use super::Session;
 use crate::events::Jump;
@@ -18,9 +18,9 @@ impl Session {
         page: &mut Page,
         out: &mut O,
     ) -> Result<(), Failed>
-        ensures step { DoneOn self.old (jump service.now state.now) self.new (O.written out.old) (O.written out.new)
-            page.old page.new result }
-        ensures cause { HasCause (O.faults out.old) (O.faults out.new) result }
+        ensures step { DoesOn O.Sink self.old (jump service.now state.now)
+            self.new out.old out.new page.old page.new result }
+        ensures cause { FailsWith O.Sink out.old out.new result }
     {
         let Jump { seat, state } = match self.check_jump(service, state) {
             Ok(jump) => jump,
@@ -37,9 +37,8 @@ impl Session {
         page: &mut Page,
         out: &mut O,
     ) -> Result<(), Failed>
-        ensures step { DoneOn self.old (jump_env env.now) self.new (O.written out.old) (O.written out.new)
-            page.old page.new result }
-        ensures cause { HasCause (O.faults out.old) (O.faults out.new) result }
+        ensures step { DoesOn O.Sink self.old (jump_env env.now) self.new out.old out.new page.old page.new result }
+        ensures cause { FailsWith O.Sink out.old out.new result }
     {
         let env = match self.check_jump_env(env) {
             Ok(env) => env,

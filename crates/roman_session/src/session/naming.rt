@@ -1,9 +1,9 @@
 //! Looks up names.
-ghost use Rattle.std.specs.Prelude.{◌<◌, ◌≤◌, map, length, IfOk, IfSome, slice_get};
+ghost use Rattle.std.specs.Prelude.{◌<◌, ◌≤◌, map, length, IfOk};
 ghost use Rattle.roman_model.specs.Explanation.{seat_names};
 ghost use Rattle.roman_joint.specs.Names.{beh_name, seat_name, names_in, states_of_behaviour};
 ghost use Rattle.roman_joint.specs.NamedSys.{beh_at};
-ghost use Rattle.roman_session.specs.Situations.{present_system};
+ghost use Rattle.roman_session.specs.Situations.{present_system, IsStateAt};
 ghost use Rattle.roman_session.specs.Rules.{FindsPlace};
 
 use super::Session;
@@ -74,8 +74,7 @@ impl Session {
     pub(super) fn state_place(&self, k: u8, name: &[u8]) -> Result<u8, Reply>
         requires { k < length self.now.parts.seats }
         ensures finds { FindsPlace (seat_names (names_in self.now.parts) k).states name.now result }
-        ensures within { IfOk result (λ b. IfSome (slice_get (present_system self.now).seats k)
-            (λ seat. b < seat.beh.states)) }
+        ensures within { IfOk result (λ b. IsStateAt self.now k b) }
     {
         self.known(); // behaviours are over the environment
         place(self.joint().behaviour(k).states(), name)

@@ -1,11 +1,10 @@
 //! Writes offers and reports.
 ghost use Rattle.std.specs.Prelude.{◌≡◌, ◌<◌, ◌+◌, ◌++◌, ◌∷◌, length};
-ghost use Rattle.roman_io.specs.Faults.{HasCause};
-ghost use Rattle.roman_io.specs.Sink.{Puts};
-ghost use Rattle.roman_text.specs.Pages.{Gathers};
+ghost use Rattle.roman_io.specs.SinkCalls.{WritesTo, FailsWith};
 ghost use Rattle.roman_session.specs.Situations.{IsOpen};
 ghost use Rattle.roman_session.specs.Reports.{report_head, services_from, services_and_answer, offer_line, offers_and_end, lines_text, report_text};
 ghost use Rattle.roman_session.specs.Serving.{served_line, offer_text};
+ghost use Rattle.roman_text.specs.Pages.{Pushes};
 
 use super::Session;
 use crate::phase::Phase;
@@ -14,9 +13,8 @@ use roman_rules::SeatSet;
 use roman_text::{Page, ReportLine};
 
 fn push_lines<O: Sink>(lines: &[ReportLine], page: &mut Page, out: &mut O) -> Result<(), Failed>
-    ensures gathers { Gathers (O.written out.old) (O.written out.new) page.new
-        (page.old ++ lines_text lines.now) result }
-    ensures cause { HasCause (O.faults out.old) (O.faults out.new) result }
+    ensures gathers { Pushes O.Sink out.old out.new page.old page.new (lines_text lines.now) result }
+    ensures cause { FailsWith O.Sink out.old out.new result }
 {
     for line in lines {
         page.push_report_line(line, out)?;
@@ -29,9 +27,9 @@ impl Session {
     /// present states, and the services that can be offered for each action. Fails only when the
     /// sink's count of faults rose. A prefix of the report was then written.
     pub fn report<O: Sink>(&self, out: &mut O) -> Result<(), Failed>
-        ensures report { Puts (O.written out.old) (O.written out.new)
+        ensures report { WritesTo O.Sink out.old out.new
             (report_text self.now.parts self.now.here) result }
-        ensures cause { HasCause (O.faults out.old) (O.faults out.new) result }
+        ensures cause { FailsWith O.Sink out.old out.new result }
     {
         let mut page = Page::new();
         self.push_report(&mut page, out)?;
@@ -47,9 +45,8 @@ impl Session {
         out: &mut O,
     ) -> Result<(), Failed>
         requires { self.now.phase ≡ Phase.Offered a }
-        ensures gathers { Gathers (O.written out.old) (O.written out.new) page.new
-            (page.old ++ offer_text self.now a) result }
-        ensures cause { HasCause (O.faults out.old) (O.faults out.new) result }
+        ensures gathers { Pushes O.Sink out.old out.new page.old page.new (offer_text self.now a) result }
+        ensures cause { FailsWith O.Sink out.old out.new result }
     {
         self.known(); // an open request can be served
         let mask = self.offered(a);
@@ -64,9 +61,8 @@ impl Session {
         page: &mut Page,
         out: &mut O,
     ) -> Result<(), Failed>
-        ensures gathers { Gathers (O.written out.old) (O.written out.new) page.new
-            (page.old ++ served_line self.now.parts mask) result }
-        ensures cause { HasCause (O.faults out.old) (O.faults out.new) result }
+        ensures gathers { Pushes O.Sink out.old out.new page.old page.new (served_line self.now.parts mask) result }
+        ensures cause { FailsWith O.Sink out.old out.new result }
     {
         for k in 0..self.joint().seats() {
             if !mask.has(k) {
@@ -79,9 +75,9 @@ impl Session {
 
     /// Pushes all lines of the report.
     pub(super) fn push_report<O: Sink>(&self, page: &mut Page, out: &mut O) -> Result<(), Failed>
-        ensures gathers { Gathers (O.written out.old) (O.written out.new) page.new
-            (page.old ++ report_text self.now.parts self.now.here) result }
-        ensures cause { HasCause (O.faults out.old) (O.faults out.new) result }
+        ensures gathers { Pushes O.Sink out.old out.new page.old page.new
+            (report_text self.now.parts self.now.here) result }
+        ensures cause { FailsWith O.Sink out.old out.new result }
     {
         push_lines(&self.head_lines(), page, out)?;
         self.push_services(page, out)?;
@@ -123,9 +119,9 @@ impl Session {
 
     /// Pushes the lines of the services, and whether the current pair is related.
     fn push_services<O: Sink>(&self, page: &mut Page, out: &mut O) -> Result<(), Failed>
-        ensures gathers { Gathers (O.written out.old) (O.written out.new) page.new
-            (page.old ++ lines_text (services_and_answer self.now.parts self.now.here)) result }
-        ensures cause { HasCause (O.faults out.old) (O.faults out.new) result }
+        ensures gathers { Pushes O.Sink out.old out.new page.old page.new
+            (lines_text (services_and_answer self.now.parts self.now.here)) result }
+        ensures cause { FailsWith O.Sink out.old out.new result }
     {
         for k in 0..self.joint().seats() {
             page.push_report_line(&self.service_line(k), out)?;
@@ -136,9 +132,9 @@ impl Session {
     /// Pushes a line for each action that the target allows, if the current pair is related, and
     /// the end of the report.
     fn push_offers<O: Sink>(&self, page: &mut Page, out: &mut O) -> Result<(), Failed>
-        ensures gathers { Gathers (O.written out.old) (O.written out.new) page.new
-            (page.old ++ lines_text (offers_and_end self.now.parts self.now.here)) result }
-        ensures cause { HasCause (O.faults out.old) (O.faults out.new) result }
+        ensures gathers { Pushes O.Sink out.old out.new page.old page.new
+            (lines_text (offers_and_end self.now.parts self.now.here)) result }
+        ensures cause { FailsWith O.Sink out.old out.new result }
     {
         if !self.composes() {
             return page.push_report_line(&ReportLine::End, out);
@@ -156,9 +152,9 @@ impl Session {
     /// Pushes the line of the action `a`, with the services that are offered for it.
     fn push_offer<O: Sink>(&self, a: u8, page: &mut Page, out: &mut O) -> Result<(), Failed>
         requires { IsOpen self.now a }
-        ensures gathers { Gathers (O.written out.old) (O.written out.new) page.new
-            (page.old ++ lines_text (offer_line self.now.parts self.now.here a)) result }
-        ensures cause { HasCause (O.faults out.old) (O.faults out.new) result }
+        ensures gathers { Pushes O.Sink out.old out.new page.old page.new
+            (lines_text (offer_line self.now.parts self.now.here a)) result }
+        ensures cause { FailsWith O.Sink out.old out.new result }
     {
         self.known(); // allowed actions are actions of the system
         let mask = self.offers(a);

@@ -1,7 +1,7 @@
 //! Requests, delegations and their outcomes.
-ghost use Rattle.roman_io.specs.Faults.{HasCause};
 ghost use Rattle.roman_text.specs.Shapes.{request, delegate, observe, abort};
-ghost use Rattle.roman_session.specs.Answering.{DoneOn};
+ghost use Rattle.roman_io.specs.SinkCalls.{FailsWith};
+ghost use Rattle.roman_session.specs.Answering.{DoesOn};
 
 use super::Session;
 use crate::events::Delegation;
@@ -19,9 +19,8 @@ impl Session {
         page: &mut Page,
         out: &mut O,
     ) -> Result<(), Failed>
-        ensures step { DoneOn self.old (request action.now) self.new (O.written out.old) (O.written out.new)
-            page.old page.new result }
-        ensures cause { HasCause (O.faults out.old) (O.faults out.new) result }
+        ensures step { DoesOn O.Sink self.old (request action.now) self.new out.old out.new page.old page.new result }
+        ensures cause { FailsWith O.Sink out.old out.new result }
     {
         let a = match self.check_request(action) {
             Ok(a) => a,
@@ -39,9 +38,8 @@ impl Session {
         page: &mut Page,
         out: &mut O,
     ) -> Result<(), Failed>
-        ensures step { DoneOn self.old (delegate service.now) self.new (O.written out.old) (O.written out.new)
-            page.old page.new result }
-        ensures cause { HasCause (O.faults out.old) (O.faults out.new) result }
+        ensures step { DoesOn O.Sink self.old (delegate service.now) self.new out.old out.new page.old page.new result }
+        ensures cause { FailsWith O.Sink out.old out.new result }
     {
         let Delegation { action, seat } = match self.check_delegate(service) {
             Ok(delegation) => delegation,
@@ -59,8 +57,8 @@ impl Session {
         page: &mut Page,
         out: &mut O,
     ) -> Result<(), Failed>
-        ensures step { DoneOn self.old abort self.new (O.written out.old) (O.written out.new) page.old page.new result }
-        ensures cause { HasCause (O.faults out.old) (O.faults out.new) result }
+        ensures step { DoesOn O.Sink self.old abort self.new out.old out.new page.old page.new result }
+        ensures cause { FailsWith O.Sink out.old out.new result }
     {
         if let Err(refusal) = self.check_abort() {
             return page.push_reply(&refusal, out);
@@ -77,9 +75,9 @@ impl Session {
         page: &mut Page,
         out: &mut O,
     ) -> Result<(), Failed>
-        ensures step { DoneOn self.old (observe state.now env.now) self.new (O.written out.old) (O.written out.new)
-            page.old page.new result }
-        ensures cause { HasCause (O.faults out.old) (O.faults out.new) result }
+        ensures step { DoesOn O.Sink self.old (observe state.now env.now)
+            self.new out.old out.new page.old page.new result }
+        ensures cause { FailsWith O.Sink out.old out.new result }
     {
         let observation = match self.check_observe(state, env) {
             Ok(observation) => observation,
