@@ -1,9 +1,10 @@
 -- What remains when services fail.
-use Rattle.std.specs.Prelude.{◌≡◌, ℕ, ◌<◌, List, [], ◌∷◌, Option, None, Some}
+use Rattle.std.specs.Prelude.{◌≡◌, ℕ, ◌<◌, List, [], ◌∷◌, length, Option, None, Some}
 use Rattle.roman_model.specs.Numbers.{sizes_of, count, pair_at}
 use Rattle.roman_model.specs.Without.{system_without, pair_without}
 use Rattle.roman_model.specs.declared.way.Way.{Way}
 use Rattle.roman_joint.specs.NamedSys.{NamedSys, system_of}
+use Rattle.roman_joint.specs.Pairs.{joint_pairs}
 use Rattle.roman_joint.specs.Parts.{HasSameParts}
 use Rattle.roman_order.specs.Board.{Board}
 use Rattle.roman_relation.specs.Greatest.{HasCaps, IsRelation}
@@ -13,6 +14,10 @@ use Rattle.roman_relation.specs.declared.relation.Relation.{Relation}
 abbrev pub places : ℕ → Option ℕ → List ℕ
 places first None = first ∷ []
 places first (Some second) = first ∷ second ∷ []
+
+-- p is the number of a pair, and k is the place of a seat
+abbrev pub HasPairAndSeat : NamedSys → ℕ → ℕ → Type 0
+HasPairAndSeat joint p k = (p < joint_pairs joint) × (k < length joint.seats)
 
 -- changes of the base can be tried on this relation: it differs from the base only in its services and its list, and has room for the base
 pub record IsScratchOf (base : NamedSys) (scratch : Relation) : Type 0 where

@@ -1,7 +1,7 @@
 //! Finds services that are equal except for their names: their failures have the same outlooks.
-ghost use Rattle.std.specs.Prelude.{◌-◌, ◌<◌, length, IsTrue};
+ghost use Rattle.std.specs.Prelude.{◌-◌, ◌<◌, IsTrue};
 ghost use Rattle.roman_whatif.specs.Losses.{IsRepeated};
-ghost use Rattle.roman_joint.specs.Pairs.{joint_pairs};
+ghost use Rattle.roman_whatif.specs.Left.{HasPairAndSeat};
 
 use roman_relation::Relation;
 
@@ -9,8 +9,7 @@ use roman_relation::Relation;
 /// are in the same state at the pair `p`, are both frozen or both ready, and are both loose or neither.
 /// Only their names differ.
 pub(crate) fn is_repeated(base: &Relation, p: u32, k: u8) -> bool
-    requires pair { p < joint_pairs base.now.joint }
-    requires place { k < length base.now.joint.seats }
+    requires { HasPairAndSeat base.now.joint p k }
     ensures { IsTrue result → IsRepeated base.now.joint p k }
 {
     if k == 0 {
@@ -35,8 +34,7 @@ pub(crate) fn is_repeated(base: &Relation, p: u32, k: u8) -> bool
 
 /// Returns whether the service at place `j` and the two before it are alike.
 pub(crate) fn is_third(base: &Relation, p: u32, j: u8) -> bool
-    requires pair { p < joint_pairs base.now.joint }
-    requires place { j < length base.now.joint.seats }
+    requires { HasPairAndSeat base.now.joint p j }
     ensures some { IsTrue result → 1 < j }
     ensures own { IsTrue result → IsRepeated base.now.joint p j }
     ensures before { IsTrue result → IsRepeated base.now.joint p (j - 1) }

@@ -2,10 +2,11 @@
 ghost use Rattle.std.specs.Prelude.{◌≡◌, ◌<◌, ◌↔◌, [], ◌∷◌, length, IfSome, IsTrue};
 ghost use Rattle.roman_model.specs.Composition.{Great};
 ghost use Rattle.roman_model.specs.Numbers.{sizes_of, pair_at};
-ghost use Rattle.roman_model.specs.Without.{system_without, pair_without, outlook};
+ghost use Rattle.roman_model.specs.Without.{system_without, pair_without};
 ghost use Rattle.roman_joint.specs.NamedSys.{system_of};
 ghost use Rattle.roman_relation.specs.Greatest.{HasCaps, IsUpToDate};
-ghost use Rattle.roman_whatif.specs.Left.{places, IsScratchOf, IsIdleScratchOf, FailsTo};
+ghost use Rattle.roman_whatif.specs.Left.{places, HasPairAndSeat, IsScratchOf, IsIdleScratchOf, FailsTo};
+ghost use Rattle.roman_whatif.specs.Losses.{left_of};
 ghost use Rattle.roman_whatif.specs.Told.{told};
 ghost use Rattle.roman_joint.specs.Pairs.{joint_pairs};
 
@@ -36,8 +37,7 @@ pub fn without<L: Ledger>(
     requires pair { p < joint_pairs base.now.joint }
     requires first { first < length base.now.joint.seats }
     requires second { IfSome second (λ j. (first < j) × (j < length base.now.joint.seats)) }
-    ensures outlook { let s = system_of base.now.joint in let K = places first second in
-        told result ≡ outlook (system_without way K s) (pair_without way K (pair_at (sizes_of s) p)) }
+    ensures outlook { told result ≡ left_of base.now.joint p way (places first second) }
     ensures great { let s = system_of base.now.joint in let K = places first second in
         IsTrue result.composes ↔ Great (system_without way K s) (pair_without way K (pair_at (sizes_of s) p)) }
     ensures scratch { IsScratchOf base.now.joint scratch.new }
@@ -70,8 +70,7 @@ pub(crate) fn fail_on<L: Ledger>(
 ) -> u32
     requires scratch { IsIdleScratchOf from.now.joint scratch.old }
     requires from { IsUpToDate from.now }
-    requires pair { p < joint_pairs from.now.joint }
-    requires place { k < length from.now.joint.seats }
+    requires place { HasPairAndSeat from.now.joint p k }
     ensures { FailsTo way (k ∷ []) from.now p scratch.new result }
 {
     match way {
@@ -89,8 +88,7 @@ pub(crate) fn fail_on<L: Ledger>(
 /// Makes the service at place `k` of `relation` fail. Returns the pair that remains of `p`.
 fn fail<L: Ledger>(relation: &mut Relation, p: u32, k: u8, way: Way, steps: &mut Steps<L>) -> u32
     requires relation { IsUpToDate relation.old }
-    requires pair { p < joint_pairs relation.old.joint }
-    requires place { k < length relation.old.joint.seats }
+    requires place { HasPairAndSeat relation.old.joint p k }
     ensures { FailsTo way (k ∷ []) relation.old p relation.new result }
 {
     match way {
@@ -103,8 +101,7 @@ fn fail<L: Ledger>(relation: &mut Relation, p: u32, k: u8, way: Way, steps: &mut
 /// pairs.
 fn freeze_seat<L: Ledger>(relation: &mut Relation, p: u32, k: u8, steps: &mut Steps<L>) -> u32
     requires relation { IsUpToDate relation.old }
-    requires pair { p < joint_pairs relation.old.joint }
-    requires place { k < length relation.old.joint.seats }
+    requires place { HasPairAndSeat relation.old.joint p k }
     ensures { FailsTo Way.Freeze (k ∷ []) relation.old p relation.new result }
 {
     let seat = *relation.joint.seat(k);
@@ -121,8 +118,7 @@ fn freeze_seat<L: Ledger>(relation: &mut Relation, p: u32, k: u8, steps: &mut St
 fn lose_seat<L: Ledger>(relation: &mut Relation, p: u32, k: u8, steps: &mut Steps<L>) -> u32
     requires caps { HasCaps relation.old.joint relation.old.order }
     requires idle { relation.old.order.waiting ≡ [] }
-    requires pair { p < joint_pairs relation.old.joint }
-    requires place { k < length relation.old.joint.seats }
+    requires place { HasPairAndSeat relation.old.joint p k }
     ensures { FailsTo Way.Die (k ∷ []) relation.old p relation.new result }
 {
     let left = relation.joint.shape().without(p, k);

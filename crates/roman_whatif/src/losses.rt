@@ -6,7 +6,7 @@ ghost use Rattle.roman_relation.specs.Greatest.{IsUpToDate};
 ghost use Rattle.roman_whatif.specs.Left.{places, IsIdleScratchOf};
 ghost use Rattle.roman_whatif.specs.Told.{told};
 ghost use Rattle.roman_whatif.specs.Losses.{told_at, left_of, MayFail, AreTold, AreLosses, AreTrialsOf};
-ghost use Rattle.roman_whatif.specs.Scenarios.{left_in, AreToldIn, AreTrialsIn, IsLeftIn, IsScenario, IsToldIn};
+ghost use Rattle.roman_whatif.specs.Scenarios.{left_in, AreToldIn, AreTrialsIn, CanTry, HasPair, HasTried, IsLeftIn, IsScenario, IsToldIn};
 ghost use Rattle.roman_joint.specs.Pairs.{joint_pairs};
 
 use crate::alike::{is_repeated, is_third};
@@ -62,7 +62,7 @@ impl Losses {
         requires base { IsUpToDate base.now }
         requires pair { p < joint_pairs base.now.joint }
         ensures pair { IfOk result (λ losses. losses.pair ≡ p) }
-        ensures losses { IfOk result (λ losses. AreLosses base.now.joint losses) }
+        ensures losses { IfOk result (AreLosses base.now.joint) }
     {
         let mut trials = Trials::build(alloc, base)?;
         try_both_ways(alloc, base, p, &mut trials, steps)
@@ -95,7 +95,7 @@ impl Trials {
     /// Copies a relation twice. Fails only when out of memory.
     fn build(alloc: Global, base: &Relation) -> Result<Trials, AllocError>
         requires { IsUpToDate base.now }
-        ensures { IfOk result (λ trials. AreTrialsOf base.now.joint trials) }
+        ensures { IfOk result (AreTrialsOf base.now.joint) }
     {
         let middle = base.scratch(alloc)?;
         let scratch = base.scratch(alloc)?;
@@ -105,9 +105,9 @@ impl Trials {
 
 /// Returns the outlook of a table without the services at these places.
 fn entry(table: &[Outlook], first: u8, second: Option<u8>) -> Outlook
-    requires { (parts : NamedSys) × (p : ℕ) × (way : Way) × AreTold parts p way table.now × MayFail parts first second }
-    ensures { (parts : NamedSys) (p : ℕ) (way : Way) → AreTold parts p way table.now → MayFail parts first second →
-        told result ≡ left_of parts p way (places first second) }
+    requires { (base : NamedSys) × (p : ℕ) × (way : Way) × AreTold base p way table.now × MayFail base first second }
+    ensures { (base : NamedSys) (p : ℕ) (way : Way) → AreTold base p way table.now → MayFail base first second →
+        told result ≡ left_of base p way (places first second) }
 {
     let k = first as usize;
     match second {
@@ -125,11 +125,10 @@ fn try_both_ways<L: Ledger>(
     trials: &mut Trials,
     steps: &mut Steps<L>,
 ) -> Result<Losses, AllocError>
-    requires base { IsUpToDate base.now }
-    requires pair { p < joint_pairs base.now.joint }
+    requires base { HasPair base.now p }
     requires trials { AreTrialsOf base.now.joint trials.old }
     ensures pair { IfOk result (λ losses. losses.pair ≡ p) }
-    ensures losses { IfOk result (λ losses. AreLosses base.now.joint losses) }
+    ensures losses { IfOk result (AreLosses base.now.joint) }
 {
     let by_freezing = Scenario {
         base,
@@ -171,7 +170,7 @@ fn try_all<L: Ledger>(
 ) -> Result<Vec<Outlook>, AllocError>
     requires scenario { IsScenario scenario.now }
     requires trials { AreTrialsIn scenario.now trials.old }
-    ensures told { IfOk result (λ table. AreToldIn scenario.now table.items) }
+    ensures told { IfOk result (AreToldIn scenario.now) }
     ensures trials { AreTrialsIn scenario.now trials.new }
 {
     let seats = scenario.base.joint.seats();
@@ -191,15 +190,9 @@ fn fill_row<L: Ledger>(
     table: &mut [Outlook],
     steps: &mut Steps<L>,
 )
-    requires scenario { IsScenario scenario.now }
-    requires place { (j < length scenario.now.base.now.joint.seats) × (j < 32) }
-    requires trials { AreTrialsIn scenario.now trials.old }
-    requires room { length table.old ≡ 32 * length scenario.now.base.now.joint.seats }
+    requires ready { CanTry scenario.now j trials.old table.old }
     requires rows { (i : ℕ) → i < j → IsToldIn scenario.now i table.old }
-    ensures told { IsToldIn scenario.now j table.new }
-    ensures before { (i : ℕ) → i < 32 * j → told_at table.new i ≡ told_at table.old i }
-    ensures room { length table.new ≡ length table.old }
-    ensures trials { AreTrialsIn scenario.now trials.new }
+    ensures { HasTried scenario.now j table.old table.new trials.new }
 {
     if is_third(scenario.base, scenario.pair, j) {
         repeat_row(table, j - 1);
@@ -239,14 +232,8 @@ fn try_with<L: Ledger>(
     table: &mut [Outlook],
     steps: &mut Steps<L>,
 )
-    requires scenario { IsScenario scenario.now }
-    requires place { (j < length scenario.now.base.now.joint.seats) × (j < 32) }
-    requires trials { AreTrialsIn scenario.now trials.old }
-    requires room { length table.old ≡ 32 * length scenario.now.base.now.joint.seats }
-    ensures told { IsToldIn scenario.now j table.new }
-    ensures before { (i : ℕ) → i < 32 * j → told_at table.new i ≡ told_at table.old i }
-    ensures room { length table.new ≡ length table.old }
-    ensures trials { AreTrialsIn scenario.now trials.new }
+    requires { CanTry scenario.now j trials.old table.old }
+    ensures { HasTried scenario.now j table.old table.new trials.new }
 {
     let left = fail_on(
         &mut trials.middle,

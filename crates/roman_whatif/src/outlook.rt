@@ -2,11 +2,10 @@
 //! in the masks of its system.
 ghost use Rattle.std.specs.Prelude.{◌≡◌, ◌<◌, ◌↔◌, IsTrue};
 ghost use Rattle.roman_model.specs.Composition.{Great};
-ghost use Rattle.roman_model.specs.Numbers.{sizes_of, count, pair_at};
-ghost use Rattle.roman_model.specs.Without.{outlook};
+ghost use Rattle.roman_model.specs.Numbers.{sizes_of, pair_at};
 ghost use Rattle.roman_joint.specs.NamedSys.{system_of};
 ghost use Rattle.roman_relation.specs.Greatest.{IsUpToDate};
-ghost use Rattle.roman_whatif.specs.Told.{told};
+ghost use Rattle.roman_whatif.specs.Told.{outlook_at, told};
 ghost use Rattle.roman_joint.specs.Pairs.{joint_pairs};
 
 use roman_relation::Relation;
@@ -28,7 +27,7 @@ pub struct Outlook {
 pub fn now(relation: &Relation, p: u32) -> Outlook
     requires relation { IsUpToDate relation.now }
     requires pair { p < joint_pairs relation.now.joint }
-    ensures outlook { let s = system_of relation.now.joint in told result ≡ outlook s (pair_at (sizes_of s) p) }
+    ensures outlook { told result ≡ outlook_at relation.now.joint p }
     ensures great { let s = system_of relation.now.joint in IsTrue result.composes ↔ Great s (pair_at (sizes_of s) p) }
 {
     relation.joint.known(); // the system is well formed

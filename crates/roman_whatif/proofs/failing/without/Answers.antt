@@ -3,7 +3,7 @@ use Rattle.roman_whatif.proofs.Lasting.{still_there, left_again, told_left, grea
 use Rattle.roman_whatif.proofs.failing.without.Goals as goal
 
 pub fail-left-requires-in-Some-clause-place : goal.fail-left-requires-in-Some-clause-place
-fail-left-requires-in-Some-clause-place g c = grind (arith, still_there)
+fail-left-requires-in-Some-clause-place g c = (c.fail-between.ensures.within, grind (arith, still_there))
 
 pub returns-in-None-clause-outlook : goal.returns-in-None-clause-outlook
 returns-in-None-clause-outlook g c =

@@ -2,13 +2,18 @@ use Rattle.roman_whatif.proofs.Common.{◌≡◌, ◌-◌, suc, subst, arith, Is
 use Rattle.roman_whatif.proofs.Repeats.{row_repeats}
 use Rattle.roman_whatif.proofs.losses.fill_row.Goals as goal
 
-pub returns-then-is_third-clause-told : goal.returns-then-is_third-clause-told
-returns-then-is_third-clause-told g c =
+pub returns-then-is_third : goal.returns-then-is_third
+returns-then-is_third g c =
     let n = c.args.scenario.now.base.now.joint in
     let (some, own) = c.is_third.ensures.own c.if-is_third.true in
     let (more, before) = c.is_third.ensures.before c.if-is_third.true in
     let row = c.repeat_row.ensures in
     let b = c.args.j - 1 in
     let next : suc b ≡ c.args.j = omega arith in
-    subst (λ m. IsToldOf n c.args.scenario.now.pair c.args.scenario.now.way m c.repeat_row.new.table) next
-    (row_repeats n c.args.scenario.now.pair b (b - 1) c.args.scenario.now.way c.args.table.now c.repeat_row.new.table (omega arith) before own (c.requires.rows b (omega arith)) row.two row.last row.alone)
+    record {
+      told = subst (λ m. IsToldOf n c.args.scenario.now.pair c.args.scenario.now.way m c.repeat_row.new.table) next
+          (row_repeats n c.args.scenario.now.pair b (b - 1) c.args.scenario.now.way c.args.table.now c.repeat_row.new.table (omega arith) before own (c.requires.rows b (omega arith)) row.two row.last row.alone);
+      before = λ i l. row.before i (omega (arith, l, next));
+      room = row.room;
+      trials = c.requires.ready.trials;
+    }

@@ -4,7 +4,7 @@ use Rattle.roman_whatif.proofs.Repeats.{alike_first}
 use Rattle.roman_whatif.proofs.losses.try_second.Goals as goal
 
 pub fail_on-last-requires-clause-place : goal.fail_on-last-requires-clause-place
-fail_on-last-requires-clause-place g c = grind (arith, still_there)
+fail_on-last-requires-clause-place g c = (c.requires.middle.within, grind (arith, still_there))
 
 pub returns-clause-told : goal.returns-clause-told
 returns-clause-told g c =
