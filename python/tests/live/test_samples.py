@@ -86,13 +86,15 @@ class Sample:
         return self.file.environment.map
 
     def moves(self) -> list[tuple[str, str, str]]:
-        """What the devices did: each device with its state, and by what it came there."""
+        """What the devices did: each device with its state, and by what it came there. A device that is on its way has
+        no state."""
         lines = [json.loads(line) for line in self.log.read_text(encoding="utf-8").splitlines()]
         found = []
         for line in lines:
             reading = self.map_of(line["device"]).states.read(line["message"])
-            assert reading is not None and reading.state is not None, line
-            found.append((line["device"], reading.state, line["by"]))
+            if reading is not None:
+                assert reading.state is not None, line
+                found.append((line["device"], reading.state, line["by"]))
         return found
 
     def agrees(self) -> bool:
@@ -135,24 +137,28 @@ def offered(sample: Sample, chance: random.Random) -> list[str]:
 
 
 def test_a_hundred_requests_with_failures(sample: Sample) -> None:
+    """Each state in which a request was served is one that its device came to, by a command or by hand. A device that
+    fails at a command may come by hand to the state that the request leads to, and then it has served the request."""
     chance = random.Random(49)
     devices = list(tomllib.loads((sample.folder / "devices.toml").read_text(encoding="utf-8")))
-    served: collections.Counter[tuple[str, str]] = collections.Counter()
-    failures = 0
-    while sum(served.values()) < REQUESTS:
-        if chance.random() < 0.05:
+    served: dict[str, list[str]] = {device: [] for device in devices}
+    requests = failures = 0
+    while sum(map(len, served.values())) < REQUESTS or failures == 0:
+        if requests % 20 == 10:
             sample.press(chance.choice(devices))
+        requests += 1
         actions = until(lambda: offered(sample, chance), "an offer")
         status, answer = sample.live.post("/requests", {"action": chance.choice(actions)})
         assert status in (200, 409), answer
         failures += len(answer["failures"])
         if status == 200:
-            served[answer["served_by"], answer["state"]] += 1
+            served[answer["served_by"]].append(answer["state"])
     until(sample.agrees, "agreement of the home and the devices")
-    done = collections.Counter((device, state) for device, state, by in sample.moves() if by == "command")
-    assert failures > 0
-    assert all(count <= done[outcome] for outcome, count in served.items()), (served, done)
-    assert {by for _, _, by in sample.moves()} == {"command", "hand"}
+    moves = sample.moves()
+    for device, states in served.items():
+        come = iter([state for name, state, _ in moves if name == device])
+        assert all(state in come for state in states), (device, states, moves)
+    assert {by for _, _, by in moves} == {"command", "hand"}
 
 
 @pytest.mark.parametrize("name", NAMES)

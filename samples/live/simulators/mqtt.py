@@ -3,6 +3,8 @@
 from __future__ import annotations
 
 import asyncio
+import contextlib
+import socket
 from typing import Any
 
 import paho.mqtt.client as mqtt  # type: ignore[import]
@@ -25,8 +27,11 @@ class MqttDevice:
         self._client = self._new_client()
 
     def _new_client(self) -> Any:
+        """A client with the name of the device. At a new connection the broker first ends the old one of that name, so
+        that its last will never comes after what the new one publishes."""
         paho2 = getattr(mqtt, "CallbackAPIVersion", None)
-        return mqtt.Client(paho2.VERSION1) if paho2 else mqtt.Client()
+        name = f"simulated-{self.world.name}"
+        return mqtt.Client(paho2.VERSION1, client_id=name) if paho2 else mqtt.Client(client_id=name)
 
     async def start(self) -> None:
         client = self._client
@@ -41,18 +46,17 @@ class MqttDevice:
 
     async def stop(self) -> None:
         self.world.stop()
-        await asyncio.to_thread(self._cut)
+        await self._cut()
 
-    def _cut(self) -> None:
-        """Cuts the connection without a word, so that the broker publishes the last will."""
-        self._client.loop_stop()
-        if self._client.socket() is not None:
-            self._client.socket().close()
+    async def _cut(self) -> None:
+        """Cuts the connection without a word, so that the broker publishes the last will. A new client replaces the
+        old one at once: what the device publishes before `start` connects it is lost."""
+        old, self._client = self._client, self._new_client()
+        await asyncio.to_thread(_end, old)
 
     async def restart(self) -> None:
         """Starts again, as after a break of the power."""
-        await asyncio.to_thread(self._cut)
-        self._client = self._new_client()
+        await self._cut()
         await asyncio.sleep(AWAY)
         await self.start()
 
@@ -76,3 +80,13 @@ class MqttDevice:
     def heard(self, topic: str, text: str) -> None:
         """A message came."""
         raise NotImplementedError
+
+
+def _end(client: Any) -> None:
+    """Ends the connection of a client, and its thread, which sees that the connection ends."""
+    if client.socket() is not None:
+        with contextlib.suppress(OSError):
+            client.socket().shutdown(socket.SHUT_RDWR)
+    client.loop_stop()
+    if client.socket() is not None:
+        client.socket().close()
