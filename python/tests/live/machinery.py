@@ -10,6 +10,7 @@ import subprocess
 import time
 import urllib.error
 import urllib.request
+from collections import deque
 from collections.abc import Callable
 from pathlib import Path
 from typing import IO, Any
@@ -20,17 +21,29 @@ PATIENCE = 120.0
 """How many seconds are waited for what has to come: the machine may be very busy."""
 
 
+WORKERS = 8
+"""Among how many workers of pytest the free ports are divided."""
+
+GIVEN: deque[int] = deque(maxlen=500)
+"""The ports that this process was given last."""
+
+
 def free_port() -> int:
-    """A port of 127.0.0.1 that is free, and that the system gives to no connection by itself."""
+    """A port of 127.0.0.1 that is free, and that the system gives to no connection by itself. No other test is given
+    it soon, in this worker of pytest or in another one: what listens on it may start again."""
     given = Path("/proc/sys/net/ipv4/ip_local_port_range").read_text(encoding="ascii").split()
+    worker = int(os.environ.get("PYTEST_XDIST_WORKER", "gw0")[2:])
     while True:
-        port = random.randrange(10_000, max(int(given[0]), 20_000))
+        port = random.randrange(10_000 + worker % WORKERS, max(int(given[0]), 20_000), WORKERS)
+        if port in GIVEN:
+            continue
         with socket.socket() as listening:
             try:
                 listening.bind(("127.0.0.1", port))
-                return port
             except OSError:
                 continue
+        GIVEN.append(port)
+        return port
 
 
 def until(holds: Callable[[], Any], what: str, passing: tuple[type[Exception], ...] = ()) -> Any:

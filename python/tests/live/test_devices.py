@@ -208,17 +208,17 @@ def test_requests_and_the_environment_over_mqtt(home: Devices) -> None:
     client.message_callback_add("roman/answers", hear)
     home.mqtt.listen("roman/answers")
 
-    def answered() -> bool:
-        """Asks for it; once more where the home doesn't listen yet, and what was asked is lost."""
+    def answered(patience: float) -> bool:
+        """Asks for it."""
         client.publish("roman/requests", '{"id": "x", "action": "brighten", "key": "k"}', qos=1)
-        return heard.wait(5)
+        return heard.wait(patience)
 
-    until(answered, "the answer")
+    until(lambda: answered(5), "the answer")  # If the home doesn't listen yet, a request may be lost.
     assert b'"served_by": "window"' in answers[0]
     assert b'"id": "x"' in answers[0]
     # It is sent again by one who doesn't know that it has come.
     heard.clear()
-    assert answered()
+    assert answered(PATIENCE)
     assert json.loads(answers[-1]) == json.loads(answers[0])
     home.world.environment = "dusk"
     client.publish("roman/environment", '{"state": "dusk"}', qos=1)

@@ -4,6 +4,7 @@ Node-RED."""
 from __future__ import annotations
 
 import json
+import threading
 from collections.abc import Iterator
 from pathlib import Path
 from typing import Any
@@ -14,7 +15,7 @@ import pytest
 from jsonschema import Draft202012Validator  # type: ignore[import]
 
 from . import TOP, sample
-from .machinery import Live, Mosquitto, until
+from .machinery import PATIENCE, Live, Mosquitto, until
 from .test_server import DEVICES, WORLD
 
 SCHEMA = Draft202012Validator(json.loads((Path(__file__).parent / "discovery.schema.json").read_text(encoding="utf-8")))
@@ -25,14 +26,17 @@ class Assistant:
 
     def __init__(self, port: int) -> None:
         self.seen: dict[str, str] = {}
+        listening = threading.Event()
         paho2 = getattr(mqtt, "CallbackAPIVersion", None)
         self.client = mqtt.Client(paho2.VERSION1) if paho2 else mqtt.Client()
         self.client.on_connect = lambda client, *_: client.subscribe("#", qos=1)
+        self.client.on_subscribe = lambda *_: listening.set()
         self.client.on_message = lambda _client, _data, message: self.seen.update(
             {message.topic: message.payload.decode()}
         )
         self.client.connect("127.0.0.1", port)
         self.client.loop_start()
+        assert listening.wait(PATIENCE)
 
     def stop(self) -> None:
         self.client.disconnect()

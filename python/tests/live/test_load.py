@@ -20,7 +20,7 @@ import pytest
 
 from roman_client import DeviceFailed
 from roman_client.store import Store
-from roman_live import events, fleet, http_api, limits, moves, pictures, requests
+from roman_live import events, fleet, http_api, limits, moves, pictures, recovery, requests
 from roman_live.config import Broker, HomeFile
 from roman_live.devices import Answer
 from roman_live.errors import NoSpace, TooManyRequests
@@ -260,7 +260,7 @@ async def test_a_listener_that_does_not_read_is_let_go(tmp_path: Path) -> None:
 
 
 async def test_what_a_listener_does_not_read_takes_little_memory(tmp_path: Path) -> None:
-    async with Served.begin(tmp_path) as served:
+    async with Served.begin(tmp_path, "[limits]\nunread = 3600\n") as served:
         client = await listen(served)
         client.writer.transport.pause_reading()  # type: ignore[attr-defined]
         assert served.server._gate is not None
@@ -405,7 +405,8 @@ async def test_a_frozen_device_that_reports_without_end(tmp_path: Path) -> None:
         home, window = served.home, served.devices["window"]
         window.error = DeviceFailed("broken")
         assert (await home.requests.serve("brighten"))["served_by"] == "ceiling"
-        with mock.patch.object(home.fleet, "back", wraps=home.fleet.back) as back:
+        no_retry = mock.patch.object(recovery, "FIRST_PAUSE", 3600.0)
+        with no_retry, mock.patch.object(home.fleet, "back", wraps=home.fleet.back) as back:
             for _ in range(1000):
                 home.fleet.moved("window", Answer("nowhere"))
             home.fleet.moved("window", Answer("ajar"))

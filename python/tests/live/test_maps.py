@@ -17,7 +17,7 @@ from pymodbus.datastore import ModbusSequentialDataBlock, ModbusServerContext, M
 
 from roman_client import Call, DeviceFailed, Document
 from roman_live.config import HomeFile, HomeFileError
-from roman_live.devices import Answer
+from roman_live.devices import Answer, modbus
 from roman_live.devices.factory import make_mapped
 from roman_live.devices.mapped import MappedReach, Outcomes
 from roman_live.devices.mapped_http import MappedHttp
@@ -495,7 +495,7 @@ async def test_one_that_hangs_is_gone_until_it_answers(tmp_path: Path) -> None:
     (tmp_path / "key").write_text("secret\n", encoding="utf-8")
     bridge, heard = Hue(), Heard()
     found = map_of(tmp_path, HUE.replace("PORT", str(bridge.port)))
-    reach = make_mapped("ceiling", found, heard, None, outcomes, 0.2)
+    reach: Any = make_mapped("ceiling", found, heard, None, outcomes, PATIENCE)
     runner = await bridge.start()
     await reach.open()
     await until_told(heard, ("moved", "off"))
@@ -504,8 +504,10 @@ async def test_one_that_hangs_is_gone_until_it_answers(tmp_path: Path) -> None:
             while refused.call_count < 2:
                 await asyncio.sleep(0.01)
     assert ("gone",) not in heard.told
+    reach._seconds = 0.2
     bridge.answers.clear()
     await until_told(heard, ("gone",))
+    reach._seconds = PATIENCE
     heard.told.clear()
     bridge.answers.set()
     await until_told(heard, ("moved", "off"))
@@ -548,7 +550,8 @@ dim = {register = 5, value = 0}
 
 
 async def test_machines_that_hang_delay_nothing_else(tmp_path: Path) -> None:
-    with socket.create_server(("127.0.0.1", 0), backlog=64) as server:
+    patient = mock.patch.object(modbus, "SECONDS", PATIENCE)
+    with patient, socket.create_server(("127.0.0.1", 0), backlog=64) as server:
         found = map_of(tmp_path, VALVE.replace("PORT", str(server.getsockname()[1])))
         reaches = [make_mapped("ceiling", found, Heard(), None, outcomes) for _ in range(40)]
         asked = [asyncio.create_task(each.tell(None)) for each in reaches]

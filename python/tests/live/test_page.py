@@ -104,7 +104,12 @@ class Browsing:
 
     def change(self, name: str, word: str) -> None:
         """Opens the dialog of a service, and chooses a change."""
-        self.find(f"#services li[data-key='{name}'] button").click()
+
+        def opened() -> bool:
+            self.find(f"#services li[data-key='{name}'] button").click()
+            return True
+
+        wait_until(opened, f"the button of {name}")
         wait_until(lambda: self.find("#dialog").is_displayed(), "the dialog")
         Select(self.find("#fields select")).select_by_visible_text(word)
 
@@ -530,7 +535,7 @@ def test_the_page_is_open_while_devices_fail(browsing: Browsing) -> None:
     browsing.at_end.callback(home.close)
     home.begin(0.2)
     browsing.open(home)
-    assert "✓ broker connected" in browsing.text("broker")
+    browsing.wait_for_text("broker", "✓ broker connected")
     served, failed = 0, 0
     for _ in range(100):
         action = browsing.press("actions", "may serve it")

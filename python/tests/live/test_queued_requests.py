@@ -134,6 +134,7 @@ def test_what_waits_at_the_end_is_left_to_the_next_home(house: House) -> None:
     house.person.ask(1, "boil", key="1")
     house.world.release.set()
     assert house.live.process.wait(PATIENCE) == 0
+    house.answered(range(1))
     assert [house.person.answers[0][0]["status"], 1 in house.person.answers] == [200, False]
     house.live.start()
     house.answered(range(2))

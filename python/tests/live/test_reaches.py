@@ -4,12 +4,13 @@ functions that hang."""
 from __future__ import annotations
 
 import asyncio
+import os
+import signal
 import ssl
 import subprocess
 import sys
 import tempfile
 import threading
-import time
 from contextlib import AsyncExitStack
 from pathlib import Path
 from typing import Any
@@ -30,6 +31,9 @@ from .test_commands import Heard
 
 CALL = Call("lamp", "brighten", "brighten", 1)
 
+LONG = 3600
+"""How many seconds a process runs that isn't waited for."""
+
 
 async def run_one(script: str) -> Answer | None:
     entry = CommandReach((sys.executable, "-c", script), False, Path.cwd())
@@ -39,10 +43,12 @@ async def run_one(script: str) -> Answer | None:
 
 
 async def test_one_that_leaves_something_running() -> None:
-    script = "import subprocess; subprocess.Popen(['sleep', '20']); print('on day')"
-    began = time.monotonic()
-    assert (await run_one(script)) == Answer("on", "day")
-    assert time.monotonic() - began < 15
+    """Its answer is there though the other process still has its output."""
+    script = f"import subprocess; left = subprocess.Popen(['sleep', '{LONG}']); print('on', left.pid)"
+    answer = await run_one(script)
+    assert answer is not None and answer.environment is not None
+    os.kill(int(answer.environment), signal.SIGKILL)
+    assert answer.state == "on"
 
 
 async def test_one_that_never_ends_its_answer() -> None:
@@ -67,17 +73,22 @@ class Unended:
             at_end.callback(patch.stop)
 
     def entry(self, lines: bool) -> CommandReach:
-        """One that answers once there is a file `go`."""
+        """One that makes a file `begun`, and answers once there is a file `go`."""
         script = "import pathlib, sys, time\n"
         script += "for _ in sys.stdin if len(sys.argv) == 1 else '?':\n"
+        script += "    pathlib.Path('begun').touch()\n"
         script += "    while not pathlib.Path('go').exists(): time.sleep(0.01)\n"
         script += "    print('on', flush=True)\n"
         return CommandReach((sys.executable, "-c", script), lines, self.folder)
 
     async def given_up(self, device: Reach) -> None:
         """It is given up, and asked again before and after it has ended."""
-        with pytest.raises(asyncio.TimeoutError):
-            await asyncio.wait_for(device.ask(1, CALL), 0.2)
+        asking = asyncio.ensure_future(device.ask(1, CALL))
+        while not (self.folder / "begun").exists():
+            await asyncio.sleep(0.01)
+        asking.cancel()
+        with pytest.raises(asyncio.CancelledError):
+            await asking
         with pytest.raises(DeviceFailed, match="^is still at work on an earlier call.*for another user$"):
             await device.ask(2, CALL)
         (self.folder / "go").touch()
@@ -178,18 +189,23 @@ async def test_one_that_cannot_be_loaded_is_named(at_end: AsyncExitStack) -> Non
 
 
 async def test_one_that_hangs_is_not_called_again(at_end: AsyncExitStack) -> None:
-    go_on = threading.Event()
+    begun, go_on = threading.Event(), threading.Event()
     at_end.callback(go_on.set)
     called = []
 
     def lamp(action: str) -> str:
         called.append(action)
+        begun.set()
         go_on.wait(PATIENCE)
         return "on"
 
     device = python_device(at_end, lamp)
-    with pytest.raises(asyncio.TimeoutError):
-        await asyncio.wait_for(device.ask(1, CALL), 0.1)
+    asking = asyncio.ensure_future(device.ask(1, CALL))
+    while not begun.is_set():
+        await asyncio.sleep(0.01)
+    asking.cancel()
+    with pytest.raises(asyncio.CancelledError):
+        await asking
     for number in range(3):
         with pytest.raises(DeviceFailed, match="is still at work on an earlier call"):
             await device.ask(number, CALL)
