@@ -32,6 +32,10 @@ class Activity:
         """The chosen service is asked."""
         self.call, self.is_ahead = (call, since), False
 
+    def is_at(self, service: str) -> bool:
+        """Whether a call of this service is under way, or has been answered and isn't recorded yet."""
+        return self.call is not None and self.call[0].service == service
+
     def ended(self) -> None:
         """Ends the call. A service that was chosen since then stays so."""
         self.call = None

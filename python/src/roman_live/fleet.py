@@ -396,10 +396,15 @@ class Fleet:
         self._events.add("sensor", text, level=logging.INFO if well else logging.WARNING)
 
     def _place(self, service: str, answer: Answer) -> None:
-        """Sets the state of a service that moved by itself."""
+        """Sets the states that a service reported by itself. If its call was answered and isn't recorded yet, the
+        registry still has older states, so these aren't compared."""
+        is_newer = self._activity.is_at(service)
         if answer.environment is not None:
-            self.environment_moved(answer.environment)
-        if answer.state != self.registry[service].state or self.moves.is_open:
+            if is_newer:
+                self.moves.add(ENVIRONMENT, protocol.jumpenv(answer.environment))
+            else:
+                self.environment_moved(answer.environment)
+        if is_newer or answer.state != self.registry[service].state or self.moves.is_open:
             self.moves.add(service, protocol.jump(service, answer.state))
 
     def _post(self, event: Event[Any]) -> asyncio.Future[Any]:

@@ -400,6 +400,25 @@ async def test_what_waits_is_older_than_an_answer(tmp_path: Path) -> None:
         assert home.registry["window"].state == "open"
 
 
+async def test_a_move_right_after_an_answer_counts(tmp_path: Path) -> None:
+    """The registry has the states before the answer then, as the device has again."""
+    async with Served.begin(tmp_path) as served:
+        home = served.home
+
+        async def act(device: Played, *words: Any) -> Answer:
+            device.listener.answered(device.service)
+            device.listener.moved(device.service, Answer("empty", "day"))
+            return Answer("hot", "dusk")
+
+        await home.requests.serve("brighten")
+        with mock.patch.object(Played, "ask", act):
+            done = await home.requests.serve("boil")
+        assert (done["state"], done["environment"]) == ("hot", "dusk")
+        while home.fleet.moves.is_open:
+            await asyncio.sleep(0)
+        assert (home.registry["kettle"].state, home.registry.environment) == ("empty", "day")
+
+
 async def test_a_frozen_device_that_reports_without_end(tmp_path: Path) -> None:
     async with Served.begin(tmp_path) as served:
         home, window = served.home, served.devices["window"]
