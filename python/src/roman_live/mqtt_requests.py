@@ -9,12 +9,13 @@ from pathlib import Path
 from typing import Any
 
 from .background import Background
+from .errors import Cancelled
 from .home import Home
 from .http_api import expiry, result
 from .limits import Bucket
 from .mqtt_api import Connection, SessionConnection
 from .queued_requests import BEAT, Keeping, LastHeard, MqttRequest, message_of
-from .requests import EXPIRED
+from .requests import CANCELLED, EXPIRED
 from .sources import SOURCE, source_of
 
 AGAIN = 0.05
@@ -117,14 +118,32 @@ class MqttRequests:
             self._home.events.add("wrong", "requests over MQTT are ignored: too many come")
 
     async def _serve_surely(self, request: MqttRequest, acknowledge: Acknowledge) -> None:
-        """Serves a request as soon as one more may be open, and acknowledges it, unless the home is about to end."""
-        async with self._turn:
-            while self._home.requests.open >= self._home.file.limits.waiting or not self._messages.take():
-                await asyncio.sleep(AGAIN)
+        """Serves a request as soon as one more may be open, and acknowledges it, unless the home is about to end. It
+        may be cancelled before."""
+        action, key = str(request.value.get("action")), str(request.value["key"])
+        try:
+            await self._home.requests.hold_back(action, key, self._take_turn())
+        except Cancelled as error:
+            self._publish(request.value.get("id"), HTTPStatus.CONFLICT, {"error": CANCELLED, "text": str(error)})
+            acknowledge()
+            return
+        try:
             serving = self._background.run(self._serve(request))
             await asyncio.sleep(0)  # The request takes its place in the queue.
+        finally:
+            self._turn.release()
         if await serving:
             acknowledge()
+
+    async def _take_turn(self) -> None:
+        """Waits for the turn, and until one more request may be open. The caller releases the turn."""
+        await self._turn.acquire()
+        try:
+            while self._home.requests.open >= self._home.file.limits.waiting or not self._messages.take():
+                await asyncio.sleep(AGAIN)
+        except BaseException:
+            self._turn.release()
+            raise
 
     async def _serve(self, request: MqttRequest) -> bool:
         """Serves a request, and publishes its answer. Returns False if it is left for the next start."""

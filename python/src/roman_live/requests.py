@@ -3,9 +3,10 @@
 from __future__ import annotations
 
 import asyncio
+import contextlib
 import time
 from collections import deque
-from collections.abc import Callable, Coroutine
+from collections.abc import Callable, Coroutine, Iterator
 from dataclasses import dataclass, replace
 from typing import Any
 
@@ -82,6 +83,7 @@ class Requests:
         self._shares = shares
         self._turn = asyncio.Lock()
         self._waiting: set[Waiting] = set()
+        self._held_back: set[Waiting] = set()
         self._numbers: deque[tuple[Done, int]] = deque(maxlen=most)
 
     async def serve(
@@ -119,12 +121,33 @@ class Requests:
             raise
 
     def cancel(self, key: str) -> int:
-        """Cancels the requests with that key that wait for their turn, and returns their number. A request whose device
-        is at work continues."""
-        found = [each for each in self._waiting if each.key == key]
+        """Cancels the requests with that key that wait for their turn, or are held back, and returns their number. A
+        request whose device is at work continues."""
+        found = [each for each in (*self._waiting, *self._held_back) if each.key == key]
         for each in found:
             each.give_up(CANCELLED)
         return len(found)
+
+    async def hold_back(self, action: str, key: str, room: Coroutine[Any, Any, None]) -> None:
+        """Waits until there is room for a request that isn't open yet. Raises `Cancelled`."""
+        with self._cancellable(self._held_back, action, key):
+            await room
+
+    @contextlib.contextmanager
+    def _cancellable(self, waiting: set[Waiting], action: str, key: str | None) -> Iterator[Waiting]:
+        """A wait of the present task. `cancel` ends it with `Cancelled`."""
+        task = asyncio.current_task()
+        assert task is not None
+        found = Waiting(key, task)
+        waiting.add(found)
+        try:
+            yield found
+        except asyncio.CancelledError:
+            if found.given_up == CANCELLED:
+                raise Cancelled(f"{action} was cancelled before a device was asked") from None
+            raise
+        finally:
+            waiting.discard(found)
 
     async def record(
         self, action: str, service: str, outcome: Outcome, key: str | None, source: str | None = None
@@ -190,22 +213,16 @@ class Requests:
         if not self._turn.locked() and not self._waiting:
             await self._turn.acquire()
             return
-        task = asyncio.current_task()
-        assert task is not None
-        waiting = Waiting(key, task)
-        timer = asyncio.get_running_loop().call_later(expires, waiting.give_up, EXPIRED)
-        self._waiting.add(waiting)
-        try:
-            await self._turn.acquire()
-        except asyncio.CancelledError:
-            if waiting.given_up == EXPIRED:
-                raise Expired(f"{action} waited {expires:g} seconds, and wasn't asked of a device") from None
-            if waiting.given_up == CANCELLED:
-                raise Cancelled(f"{action} was cancelled before a device was asked") from None
-            raise
-        finally:
-            timer.cancel()
-            self._waiting.discard(waiting)
+        with self._cancellable(self._waiting, action, key) as waiting:
+            timer = asyncio.get_running_loop().call_later(expires, waiting.give_up, EXPIRED)
+            try:
+                await self._turn.acquire()
+            except asyncio.CancelledError:
+                if waiting.given_up == EXPIRED:
+                    raise Expired(f"{action} waited {expires:g} seconds, and wasn't asked of a device") from None
+                raise
+            finally:
+                timer.cancel()
 
     async def _request(
         self, action: str, key: str | None, source: str | None, failures: list[Failure]

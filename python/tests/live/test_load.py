@@ -457,10 +457,42 @@ async def test_too_many_requests_over_mqtt(tmp_path: Path) -> None:
         served.home.fleet.broker = None
 
 
+async def test_a_request_that_is_held_back_can_be_cancelled(tmp_path: Path) -> None:
+    """One that waits for room, and one that waits for its turn behind it."""
+    async with Served.begin(tmp_path, "[limits]\nwaiting = 1\n") as served:
+        published: asyncio.Queue[Any] = asyncio.Queue()
+        acknowledged: list[str] = []
+        served.home.fleet.broker = Fake(published)  # type: ignore[assignment]
+        intake, window = MqttRequests(served.home), served.devices["window"]
+
+        def hear(comes_again: bool, **value: Any) -> None:
+            intake._hear(json.dumps(value).encode(), comes_again, lambda: acknowledged.append(value["key"]))
+
+        window.gate.clear()
+        first = asyncio.ensure_future(served.home.requests.serve("brighten"))
+        await window.asked.wait()
+        for key in ("a", "b", "c"):
+            hear(True, id=key, action="boil", key=key)
+        await asyncio.sleep(0)
+        hear(False, cancel="b", key="")
+        hear(False, cancel="a", key="")
+        assert [await published.get() for _ in "ab"] == [
+            {"id": key, "status": 409, "error": "cancelled", "text": "boil was cancelled before a device was asked"}
+            for key in ("b", "a")
+        ]
+        assert acknowledged == ["", "", "b", "a"]
+        window.gate.set()
+        assert (await first)["served_by"] == "window"
+        answer = await published.get()
+        assert (answer["id"], answer["status"], len(served.devices["kettle"].calls)) == ("c", 200, 1)
+        served.home.fleet.broker = None
+
+
 class Fake:
     """A broker that has what is published."""
 
     connected = True
+    state_topic = "state"
 
     def __init__(self, published: asyncio.Queue[Any]) -> None:
         self.published = published
