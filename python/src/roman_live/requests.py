@@ -109,13 +109,16 @@ class Requests:
             raise TooManyRequests(f"{self.open} requests wait already; try again later")
         self.open += 1
         answer: asyncio.Future[dict[str, Any]] = asyncio.get_running_loop().create_future()
-        self.background.run(self._answer(answer, self._served(action, key, expires, source)))
+        work = self.background.run(self._answer(answer, action, key, expires, source))
+        work.add_done_callback(lambda work: answer.cancel())  # If it was cancelled before it began.
         return await answer
 
-    async def _answer(self, answer: asyncio.Future[dict[str, Any]], work: Coroutine[Any, Any, dict[str, Any]]) -> None:
+    async def _answer(
+        self, answer: asyncio.Future[dict[str, Any]], action: str, key: str | None, expires: float, source: str | None
+    ) -> None:
         """Passes the result of a request to its caller, unless the caller has gone away."""
         try:
-            settle(answer, await work, None)
+            settle(answer, await self._served(action, key, expires, source), None)
         except BaseException as error:
             settle(answer, None, error)
             raise

@@ -60,7 +60,7 @@ class Played(Reach):
 class Playhouse:
     """A folder with a home file, whose home is started once or again. Its devices outlast it."""
 
-    def __init__(self, folder: Path, more: str = "", device: str = "") -> None:
+    def __init__(self, folder: Path, more: str = "", device: str = f"seconds = {PATIENCE}") -> None:
         self.devices: dict[str, Played] = {}
         self.file = folder / "home.toml"
         head = f'document = "{sample("home.json")}"\nprogram = "{PROGRAM}"\n{more}\n[journal]\npath = "home.db"\n'

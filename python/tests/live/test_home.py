@@ -22,6 +22,7 @@ from roman_live.home import Home
 from roman_live.http_api import Server, result
 
 from . import PROGRAM, sample
+from .machinery import PATIENCE
 
 HOME = ("window", "ceiling", "kettle")
 SERVICES = {"depot": ("belt", "drone", "van", "broom"), "home": HOME, "short/home": HOME}
@@ -64,7 +65,7 @@ class Played(Reach):
 class InProcess:
     """Homes of a sample."""
 
-    seconds = 10.0
+    seconds = PATIENCE
 
     def __init__(self, folder: Path, at_end: AsyncExitStack) -> None:
         self.folder = folder

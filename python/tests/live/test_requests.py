@@ -107,6 +107,18 @@ def test_one_that_comes_between_two_turns_can_be_cancelled(tmp_path: Path) -> No
     run(test())
 
 
+def test_one_that_has_not_begun_ends_with_the_home(tmp_path: Path) -> None:
+    async def test() -> None:
+        async with Playhouse(tmp_path).home() as home:
+            asking = asyncio.ensure_future(home.requests.serve("brighten"))
+            await asyncio.sleep(0)
+            await home.requests.background.close()
+            with pytest.raises(asyncio.CancelledError):
+                await asking
+
+    run(test())
+
+
 def test_what_is_wrong_with_a_key(tmp_path: Path) -> None:
     async def test() -> None:
         playhouse = Playhouse(tmp_path)
