@@ -2,13 +2,14 @@
 
 from __future__ import annotations
 
-import asyncio
 from collections.abc import Callable
 
 from .config import Sensor
 from .devices import Answer
 from .devices.factory import make_mapped
+from .errors import error_text
 from .mqtt_api import Connection
+from .polling import poll
 
 
 class EnvironmentSensor:
@@ -26,21 +27,32 @@ class EnvironmentSensor:
         self._seconds = sensor.seconds
         self._moved = moved
         self._said = said
-        self.reach = make_mapped("environment", sensor.map, self, broker, lambda call: (), sensor.seconds)
+        self.reach = make_mapped("environment", sensor.map, self, broker, lambda call: ())
         self.state: str | None = None
 
     async def ask(self) -> None:
         """Reads the state."""
         try:
-            async with asyncio.timeout(self._seconds):
-                answer = await self.reach.tell(None)
-        except TimeoutError:
-            self._said(f"the environment's sensor doesn't answer within {self._seconds:g} seconds", False)
+            answer = await self._told()
         except Exception as error:
-            self._said(f"the environment's sensor: {error}", False)
+            self._lost(error)
         else:
             if answer is not None:
-                self.moved("", answer)
+                self._heard(answer)
+
+    async def watch(self) -> None:
+        """Asks the sensor again and again, if it reports nothing by itself."""
+        if self.reach.poll is not None:
+            await poll(self.reach.poll, self._told, lambda: 0, self._heard, self._lost)
+
+    async def _told(self) -> Answer | None:
+        return await self.reach.present(self._seconds)
+
+    def _heard(self, answer: Answer) -> None:
+        self.moved("", answer)
+
+    def _lost(self, error: Exception) -> None:
+        self._said(f"the environment's sensor: {error_text(error)}", False)
 
     # As a listener.
 

@@ -99,6 +99,11 @@ def check_files() -> None:
             os.close(each)
 
 
+def error_text(error: Exception) -> str:
+    """The text of an error, or its kind if it has no text."""
+    return str(error) or type(error).__name__
+
+
 def connection_error(error: ClientConnectorError) -> str:
     """Why there is no connection, in the words of the system."""
     if isinstance(error, ClientConnectorCertificateError):

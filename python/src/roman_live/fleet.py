@@ -8,21 +8,10 @@ import difflib
 import logging
 from collections.abc import Callable
 from dataclasses import dataclass
+from functools import partial
 from typing import Any
 
-from roman_client import (
-    NOT_DONE,
-    Call,
-    DeviceFailed,
-    DeviceTimeout,
-    Did,
-    Document,
-    Frozen,
-    Refusal,
-    StoreFailed,
-    aio,
-    protocol,
-)
+from roman_client import NOT_DONE, Call, DeviceFailed, Did, Document, Frozen, Refusal, StoreFailed, aio, protocol
 from roman_client.devices import Outcome, Told
 from roman_client.protocol import Event
 
@@ -34,10 +23,11 @@ from .devices.base import DEADLINE
 from .devices.factory import make_reach
 from .devices.maps import Map, check_map, check_states, check_words
 from .environment import EnvironmentSensor
-from .errors import TEMPORARY_ERRORS, NoDevice, NoSpace, UnknownState
+from .errors import TEMPORARY_ERRORS, NoDevice, NoSpace, UnknownState, error_text
 from .events import EventLog
 from .moves import PAUSE, Moves
 from .mqtt_api import Connection
+from .polling import poll
 from .processes import Processes
 from .recovery import Retries
 from .registry import Registry
@@ -67,7 +57,7 @@ class HomeDevice(aio.Device):
     def __init__(self, fleet: Fleet, reach: Reach, entry: DeviceEntry | None) -> None:
         """A simulated device has no entry, and no deadline; nor has a quick one."""
         self.reach = reach
-        self.poll = None if entry is None else entry.poll
+        self.poll = reach.poll if entry is None or entry.poll is None else entry.poll
         self.timeout = None if entry is None or reach.is_quick else entry.seconds or reach.timeout or DEADLINE
         self.repeatable = reach.repeatable or entry is not None and entry.repeat
         self.late_is_doubt = reach.late_is_doubt or entry is not None and entry.late_is_doubt
@@ -216,6 +206,7 @@ class Fleet:
             comparing = [self.background.run(self.compare(name)) for name in self.registry.present()]
             if self.sensor is not None:
                 comparing.append(self.background.run(self.sensor.ask()))
+                self.background.run(self.sensor.watch())
             if comparing:
                 await asyncio.wait(comparing, timeout=FIRST_WORD)
             for name, device in self.devices.items():
@@ -438,11 +429,7 @@ class Fleet:
     async def told(self, service: str) -> Answer | None:
         """The present state of a device. Raises an exception if the device doesn't answer in time."""
         device = self.devices[service]
-        try:
-            async with asyncio.timeout(device.timeout):
-                return await device.reach.tell(None)
-        except TimeoutError:
-            raise DeviceTimeout(f"no answer within {device.timeout} seconds") from None
+        return await device.reach.present(device.timeout)
 
     async def compare(self, service: str, times: int = 1) -> None:
         """Asks a device for its state, since it may have moved unnoticed."""
@@ -451,36 +438,55 @@ class Fleet:
                 return
         if self.devices[service].reach.by_broker and self.broker is not None and not self.broker.connected:
             return  # That has been said.
+        self._report_silence(service)
+
+    def _report_silence(self, service: str) -> None:
         text = f"{service} doesn't tell where it is: {self.registry[service].last_error}"
         self._events.add("silent", text, level=logging.WARNING, service=service)
+
+    def _calls(self, service: str) -> int | None:
+        """The number of calls of a service in this run, or None if it isn't to be asked for its state now."""
+        known = self.registry.get(service)
+        return None if known is None or known.dead or service == self._activity.chosen else known.calls
 
     async def _look(self, service: str) -> bool:
         """Asks a device once for its state. What it says counts for nothing if it is given a call meanwhile, whose
         answer is newer. False if it doesn't tell."""
-        known = self.registry[service]
-        calls = known.calls
-        if known.frozen or known.dead or service == self._activity.chosen:
+        known, calls = self.registry[service], self._calls(service)
+        if known.frozen or calls is None:
             return True
         try:
             answer = await self.told(service)
         except Exception as error:
-            known.last_error = str(error) or type(error).__name__
-            return known.calls != calls
-        if answer is not None and known.calls == calls and service != self._activity.chosen:
+            known.last_error = error_text(error)
+            return self._calls(service) != calls
+        if answer is not None and self._calls(service) == calls:
             known.last_error = None
             self._place(service, answer)
         return True
 
     async def _poll(self, service: str, seconds: float) -> None:
         """Asks a device for its state again and again, so that moves by hand are noticed."""
-        told = True
-        while True:
-            await asyncio.sleep(seconds)
-            if service in self.registry:
-                before, told = told, await self._look(service)
-                if before and not told:
-                    text = f"{service} doesn't tell where it is: {self.registry[service].last_error}"
-                    self._events.add("silent", text, level=logging.WARNING, service=service)
+        told, calls = partial(self.told, service), partial(self._calls, service)
+        await poll(seconds, told, calls, partial(self._heard, service), partial(self._lost, service))
+
+    def _heard(self, service: str, answer: Answer) -> None:
+        """Handles the state of a device that was asked for it."""
+        known = self.registry[service]
+        if not known.frozen:
+            known.last_error = None
+        self.moved(service, answer)
+
+    def _lost(self, service: str, error: Exception) -> None:
+        """Handles the error of a device that was asked for its state."""
+        known = self.registry[service]
+        if known.frozen:
+            return
+        if self.devices[service].reach.gone_if_silent:
+            self.gone(service)
+        else:
+            known.last_error = error_text(error)
+            self._report_silence(service)
 
     async def back(self, service: str, answer: Answer) -> bool:
         """A service that was frozen is back: it is thawed, unless that was done meanwhile, or it was frozen by hand.

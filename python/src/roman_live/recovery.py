@@ -8,6 +8,7 @@ from collections.abc import Awaitable, Callable
 from datetime import datetime, timedelta, timezone
 
 from .devices import Answer
+from .errors import error_text
 from .registry import Registry
 
 FIRST_PAUSE = 1.0
@@ -106,7 +107,7 @@ class Retries:
             try:
                 answer = await self._told(service)
             except Exception as error:
-                known.last_error = str(error) or type(error).__name__
+                known.last_error = error_text(error)
             else:
                 if answer is None:
                     pause = None  # It can't report its state, so a person decides when it is back.

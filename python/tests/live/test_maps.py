@@ -3,10 +3,12 @@
 from __future__ import annotations
 
 import asyncio
+import contextlib
 import errno
 import json
 import socket
-from collections.abc import Callable, Coroutine
+from collections.abc import AsyncIterator, Callable, Coroutine
+from functools import partial
 from pathlib import Path
 from typing import Any, TypeVar
 from unittest import mock
@@ -23,6 +25,7 @@ from roman_live.devices.mapped import MappedReach, Outcomes
 from roman_live.devices.mapped_http import MappedHttp
 from roman_live.devices.maps import Map, MqttMap, Reading, check_map
 from roman_live.errors import NoSpace
+from roman_live.polling import poll
 
 from . import sample
 from .machinery import PATIENCE, free_port
@@ -458,6 +461,24 @@ class Hue:
         return web.json_response({"data": [{"rid": "1", "rtype": "light"}], "errors": []})
 
 
+@contextlib.asynccontextmanager
+async def polled(
+    reach: MappedReach, heard: Heard, seconds: Callable[[], float] = lambda: PATIENCE
+) -> AsyncIterator[None]:
+    """A device that is open, and polled for a listener. Each poll waits for `seconds()`."""
+    assert reach.poll is not None
+    moved = partial(heard.moved, "ceiling")
+
+    async def told() -> Answer | None:
+        return await reach.present(seconds())
+
+    polling = asyncio.create_task(poll(reach.poll, told, lambda: 0, moved, lambda error: heard.gone("ceiling")))
+    await reach.open()
+    yield
+    polling.cancel()
+    await reach.close()
+
+
 async def until_told(heard: Heard, what: tuple[Any, ...]) -> None:
     """Waits until the listener was told that."""
     async with asyncio.timeout(PATIENCE):
@@ -470,23 +491,22 @@ async def test_a_light_of_hue(tmp_path: Path) -> None:
 
     bridge, heard = Hue(), Heard()
     found = map_of(tmp_path, HUE.replace("PORT", str(bridge.port)))
-    reach: MappedReach = make_mapped("ceiling", found, heard, None, outcomes)
+    reach = make_mapped("ceiling", found, heard, None, outcomes)
     runner = await bridge.start()
-    await reach.open()
-    assert await reach.tell(None) == Answer("off")
-    assert await reach.ask(1, BRIGHTEN) == Answer("on")
-    assert bridge.on
-    heard.told.clear()
-    bridge.on = False
-    await until_told(heard, ("moved", "off"))
-    bridge.broken = True
-    await until_told(heard, ("gone",))
-    with pytest.raises(DeviceFailed, match=r"/light/1: status 503"):
-        await reach.ask(2, BRIGHTEN)
-    bridge.broken = False
-    heard.told.clear()
-    await until_told(heard, ("moved", "off"))
-    await reach.close()
+    async with polled(reach, heard):
+        assert await reach.tell(None) == Answer("off")
+        assert await reach.ask(1, BRIGHTEN) == Answer("on")
+        assert bridge.on
+        heard.told.clear()
+        bridge.on = False
+        await until_told(heard, ("moved", "off"))
+        bridge.broken = True
+        await until_told(heard, ("gone",))
+        with pytest.raises(DeviceFailed, match=r"/light/1: status 503"):
+            await reach.ask(2, BRIGHTEN)
+        bridge.broken = False
+        heard.told.clear()
+        await until_told(heard, ("moved", "off"))
     await runner.cleanup()
 
 
@@ -495,24 +515,24 @@ async def test_one_that_hangs_is_gone_until_it_answers(tmp_path: Path) -> None:
     (tmp_path / "key").write_text("secret\n", encoding="utf-8")
     bridge, heard = Hue(), Heard()
     found = map_of(tmp_path, HUE.replace("PORT", str(bridge.port)))
-    reach: Any = make_mapped("ceiling", found, heard, None, outcomes, PATIENCE)
+    reach = make_mapped("ceiling", found, heard, None, outcomes)
     runner = await bridge.start()
-    await reach.open()
-    await until_told(heard, ("moved", "off"))
-    with mock.patch.object(socket, "socket", side_effect=OSError(errno.EMFILE, "Too many open files")) as refused:
-        async with asyncio.timeout(PATIENCE):
-            while refused.call_count < 2:
-                await asyncio.sleep(0.01)
-    assert ("gone",) not in heard.told
-    reach._seconds = 0.2
-    bridge.answers.clear()
-    await until_told(heard, ("gone",))
-    reach._seconds = PATIENCE
-    heard.told.clear()
-    bridge.answers.set()
-    await until_told(heard, ("moved", "off"))
-    assert ("gone",) not in heard.told
-    await reach.close()
+    seconds = PATIENCE
+    async with polled(reach, heard, lambda: seconds):
+        await until_told(heard, ("moved", "off"))
+        with mock.patch.object(socket, "socket", side_effect=OSError(errno.EMFILE, "Too many open files")) as refused:
+            async with asyncio.timeout(PATIENCE):
+                while refused.call_count < 2:
+                    await asyncio.sleep(0.01)
+        assert ("gone",) not in heard.told
+        seconds = 0.2
+        bridge.answers.clear()
+        await until_told(heard, ("gone",))
+        seconds = PATIENCE
+        heard.told.clear()
+        bridge.answers.set()
+        await until_told(heard, ("moved", "off"))
+        assert ("gone",) not in heard.told
     await runner.cleanup()
 
 
@@ -575,9 +595,6 @@ async def test_a_valve_with_registers(tmp_path: Path) -> None:
     assert await reach.tell(None) == Answer("off")
     assert await reach.ask(1, BRIGHTEN) == Answer("on")
     assert registers.getValues(5, 1) == [1000]
-    await reach.open()
-    registers.setValues(5, [0])
-    await until_told(heard, ("moved", "off"))
     registers.setValues(5, [500])
     with pytest.raises(DeviceFailed, match="^says '500', which is in none of its states$"):
         await reach.tell(None)

@@ -2,11 +2,12 @@
 
 from __future__ import annotations
 
+import asyncio
 import json
 from dataclasses import dataclass
 from typing import Any, Protocol
 
-from roman_client import Call, DeviceFailed
+from roman_client import Call, DeviceFailed, DeviceTimeout
 
 DEADLINE = 10.0
 """How many seconds a device may take, unless the home file or the device gives another number."""
@@ -46,11 +47,14 @@ class Listener(Protocol):
 
 class Reach:
     """How a service is reached. `by_broker` says that what it says unasked is lost while the broker is gone. A device
-    that brings its own deadline, or may be repeated, or is doubtful if it is late, says so as `roman_client.Device`
-    does. One that `is_quick` has no deadline."""
+    that reports nothing by itself is asked for its state each `poll` seconds. If it doesn't answer then, it counts as
+    gone if `gone_if_silent`. A device that brings its own deadline, or may be repeated, or is doubtful if it is late,
+    says so as `roman_client.Device` does. One that `is_quick` has no deadline."""
 
     reached = ""
     by_broker = False
+    poll: float | None = None
+    gone_if_silent = False
     timeout: float | None = None
     repeatable = False
     late_is_doubt = False
@@ -79,6 +83,14 @@ class Reach:
         """The present state of the device, and whether that call was done, which had that number; None if it can't
         tell."""
         return None
+
+    async def present(self, seconds: float | None) -> Answer | None:
+        """The present state of the device. Raises DeviceTimeout if it doesn't answer in that time."""
+        try:
+            async with asyncio.timeout(seconds):
+                return await self.tell(None)
+        except TimeoutError:
+            raise DeviceTimeout(f"no answer within {seconds} seconds") from None
 
 
 def answer_of(value: Any) -> Answer:

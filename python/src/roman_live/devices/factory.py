@@ -5,7 +5,7 @@ from __future__ import annotations
 from ..config import CommandReach, DeviceEntry, HttpReach, MqttReach
 from ..mqtt_api import Connection
 from ..processes import Processes
-from .base import DEADLINE, Listener, Reach
+from .base import Listener, Reach
 from .command import Command, LineCommand
 from .http import Http
 from .mapped import MappedReach, Outcomes
@@ -29,7 +29,7 @@ def make_reach(
     command an earlier run may have left at work. `outcomes` says what the document allows for a call."""
     reach = entry.reach
     if isinstance(reach, Map):
-        return make_mapped(service, reach, listener, broker, outcomes, entry.seconds or DEADLINE)
+        return make_mapped(service, reach, listener, broker, outcomes)
     if isinstance(reach, MqttReach):
         assert broker is not None
         return Mqtt(service, listener, reach, broker)
@@ -41,20 +41,15 @@ def make_reach(
 
 
 def make_mapped(
-    service: str,
-    found: Map,
-    listener: Listener,
-    broker: Connection | None,
-    outcomes: Outcomes,
-    seconds: float = DEADLINE,
+    service: str, found: Map, listener: Listener, broker: Connection | None, outcomes: Outcomes
 ) -> MappedReach:
-    """The reach of a service, or of the environment, by a map. A device that is polled must answer within `seconds`."""
+    """The reach of a service, or of the environment, by a map."""
     if isinstance(found, MqttMap):
         assert broker is not None
         return MappedMqtt(service, listener, found, outcomes, broker)
     if isinstance(found, HttpMap):
-        return MappedHttp(service, listener, found, outcomes, seconds)
+        return MappedHttp(service, listener, found, outcomes)
     assert isinstance(found, ModbusMap)
     from .modbus import Modbus  # Its client is needed only by those who have such machines.
 
-    return Modbus(service, listener, found, outcomes, seconds)
+    return Modbus(service, listener, found, outcomes)

@@ -69,18 +69,13 @@ def answer_in(reading: Reading | None) -> Answer:
 
 
 class PolledReach(MappedReach):
-    """A mapped device that reports its state only if it is asked. While no call is open, it is asked each `poll`
-    seconds, and a new state is a move by hand. It is gone if it doesn't answer within `seconds`."""
+    """A mapped device that reports its state only if it is asked. A device whose map has no state is believed."""
 
-    def __init__(
-        self, service: str, listener: Listener, found: Map, outcomes: Outcomes, poll: float, seconds: float
-    ) -> None:
+    gone_if_silent = True
+
+    def __init__(self, service: str, listener: Listener, found: Map, outcomes: Outcomes, poll: float | None) -> None:
         super().__init__(service, listener, found, outcomes)
-        self._poll = poll
-        self._seconds = seconds
-        self._polling: asyncio.Task[None] | None = None
-        self._calls = 0
-        self._open = False
+        self.poll = poll
 
     async def fetch(self) -> str:
         """Asks the device for its state, and returns its message."""
@@ -90,30 +85,12 @@ class PolledReach(MappedReach):
         """Sends a command to the device, and returns its reply."""
         raise NotImplementedError
 
-    tells = True
-    """Whether the device reports its state."""
-
-    async def open(self) -> None:
-        if self.tells:
-            self._polling = asyncio.create_task(self._look())
-
-    async def close(self) -> None:
-        if self._polling is not None:
-            self._polling.cancel()
-            with contextlib.suppress(asyncio.CancelledError):
-                await self._polling
-
     async def ask(self, number: int, call: Call) -> Answer:
         action, expected = self.action(call), Expected(self._outcomes(call), asyncio.Future())
-        self._calls += 1
-        self._open = True
-        try:
-            reply = await self.send(number, call)
-            if action.state is not None:
-                return Answer(action.state)
-            return await self._after(expected) if self.tells else answer_in(self.read(reply))
-        finally:
-            self._open = False
+        reply = await self.send(number, call)
+        if action.state is not None:
+            return Answer(action.state)
+        return answer_in(self.read(reply)) if self.poll is None else await self._after(expected)
 
     async def _after(self, expected: Expected) -> Answer:
         """Waits for the first state that is an outcome. Errors are ignored, since the device may be restarting. So is
@@ -128,26 +105,4 @@ class PolledReach(MappedReach):
             pause = min(2 * pause, LONGEST_LOOK)
 
     async def tell(self, number: int | None, call: Call | None = None) -> Answer | None:
-        return answer_in(self.read(await self.fetch())) if self.tells else None
-
-    async def _look(self) -> None:
-        """Polls the device. An answer is dropped if a call was made meanwhile."""
-        there = True
-        while True:
-            await asyncio.sleep(self._poll)
-            calls = self._calls
-            if self._open:
-                continue
-            try:
-                async with asyncio.timeout(self._seconds):
-                    answer = answer_in(self.read(await self.fetch()))
-            except NoSpace:
-                continue  # It wasn't asked.
-            except (DeviceFailed, TimeoutError):
-                if there and calls == self._calls:
-                    self.listener.gone(self.service)
-                there = False
-                continue
-            there = True
-            if calls == self._calls:
-                self.listener.moved(self.service, answer)
+        return None if self.poll is None else answer_in(self.read(await self.fetch()))

@@ -18,18 +18,15 @@ class MappedHttp(PolledReach):
 
     reached = "http"
 
-    def __init__(self, service: str, listener: Listener, found: HttpMap, outcomes: Outcomes, seconds: float) -> None:
-        super().__init__(service, listener, found, outcomes, found.poll, seconds)
+    def __init__(self, service: str, listener: Listener, found: HttpMap, outcomes: Outcomes) -> None:
+        super().__init__(service, listener, found, outcomes, None if found.state is None else found.poll)
         self._state = found.state
-        self.tells = found.state is not None
         self._client = Client()
 
     async def open(self) -> None:
         await self._client.open()
-        await super().open()
 
     async def close(self) -> None:
-        await super().close()
         await self._client.close()
 
     async def fetch(self) -> str:

@@ -44,13 +44,12 @@ class Modbus(PolledReach):
 
     reached = "modbus"
 
-    def __init__(self, service: str, listener: Listener, found: ModbusMap, outcomes: Outcomes, seconds: float) -> None:
-        super().__init__(service, listener, found, outcomes, found.poll, seconds)
+    def __init__(self, service: str, listener: Listener, found: ModbusMap, outcomes: Outcomes) -> None:
+        super().__init__(service, listener, found, outcomes, found.poll)
         self._machine = found
         self._threads = ThreadPoolExecutor(max_workers=2)  # A call doesn't wait for a poll.
 
     async def close(self) -> None:
-        await super().close()
         self._threads.shutdown(wait=False, cancel_futures=True)
 
     async def fetch(self) -> str:
