@@ -7,6 +7,7 @@ import contextlib
 import errno
 import json
 import socket
+import threading
 from collections.abc import AsyncIterator, Callable, Coroutine
 from functools import partial
 from pathlib import Path
@@ -581,6 +582,48 @@ async def test_machines_that_hang_delay_nothing_else(tmp_path: Path) -> None:
     await asyncio.wait(asked)
     for each in reaches:
         await each.close()
+
+
+class SlowMachine:
+    """A client of a machine that takes a connection only when it is let to."""
+
+    def __init__(self) -> None:
+        self.connects, self.closed, self.free = threading.Event(), threading.Event(), threading.Event()
+        self.written: list[tuple[int, int]] = []
+
+    def __call__(self, host: str, **words: Any) -> SlowMachine:
+        assert words["retries"] == 0
+        return self
+
+    def connect(self) -> bool:
+        self.connects.set()
+        return self.free.wait(PATIENCE)
+
+    def write_register(self, address: int, value: int, **unit: int) -> mock.Mock:
+        self.written.append((address, value))
+        return mock.Mock(**{"isError.return_value": False})
+
+    def close(self) -> None:
+        self.closed.set()
+
+
+@pytest.mark.parametrize("given_up", [True, False])
+async def test_a_call_that_is_given_up_writes_nothing(tmp_path: Path, given_up: bool) -> None:
+    machine = SlowMachine()
+    with mock.patch("roman_live.devices.modbus.ModbusTcpClient", machine):
+        valve = map_of(tmp_path, VALVE.replace("PORT", "1"))
+        reach = make_mapped("ceiling", valve, Heard(), None, outcomes)
+        call = asyncio.create_task(reach.ask(1, BRIGHTEN))
+        assert await asyncio.to_thread(machine.connects.wait, PATIENCE)
+        if given_up:
+            call.cancel()
+            await asyncio.wait([call])
+        machine.free.set()
+        assert await asyncio.to_thread(machine.closed.wait, PATIENCE)
+        assert machine.written == ([] if given_up else [(5, 1000)])
+        call.cancel()
+        await asyncio.wait([call])
+        await reach.close()
 
 
 async def test_a_valve_with_registers(tmp_path: Path) -> None:

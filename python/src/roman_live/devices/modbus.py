@@ -7,9 +7,10 @@ import functools
 import inspect
 import json
 import logging
+import threading
 from collections.abc import Callable
 from concurrent.futures import ThreadPoolExecutor
-from typing import Any
+from typing import Any, TypeVar
 
 from pymodbus.client import ModbusTcpClient
 from pymodbus.exceptions import ModbusException
@@ -19,6 +20,8 @@ from roman_client import Call, DeviceFailed
 from .base import Listener
 from .mapped import Outcomes, PolledReach
 from .maps import ModbusAction, ModbusMap, ModbusPlace
+
+Value = TypeVar("Value")
 
 logging.getLogger("pymodbus").setLevel(logging.CRITICAL)  # Its errors are told as those of the device.
 
@@ -39,39 +42,48 @@ UNIT = "device_id" if "device_id" in inspect.signature(ModbusTcpClient.read_coil
 
 class Modbus(PolledReach):
     """A machine whose state is read from a place, and which acts when something is written. Each exchange has a
-    connection of its own. A machine has threads of its own: the client waits, and one that hangs delays nothing else.
-    """
+    connection of its own. A machine has two threads of its own, one that reads and one that writes, since the client
+    waits: one that hangs delays no other machine, and a call doesn't wait for a poll. A call that is given up before
+    its connection is made writes nothing."""
 
     reached = "modbus"
 
     def __init__(self, service: str, listener: Listener, found: ModbusMap, outcomes: Outcomes) -> None:
         super().__init__(service, listener, found, outcomes, found.poll)
         self._machine = found
-        self._threads = ThreadPoolExecutor(max_workers=2)  # A call doesn't wait for a poll.
+        self._reader, self._writer = (ThreadPoolExecutor(max_workers=1) for _ in range(2))
 
     async def close(self) -> None:
-        self._threads.shutdown(wait=False, cancel_futures=True)
+        for each in (self._reader, self._writer):
+            each.shutdown(wait=False, cancel_futures=True)
 
     async def fetch(self) -> str:
-        values = await self._in_a_thread(lambda client: self._values(client, self._machine.state))
+        values = await self._talk(self._reader, lambda client: self._values(client, self._machine.state))
         return json.dumps(values if self._machine.state.count > 1 else values[0])
 
     async def send(self, number: int, call: Call) -> str:
         action = self.action(call)
         assert isinstance(action, ModbusAction)
-        await self._in_a_thread(functools.partial(self._write, action))
+        await self._talk(self._writer, functools.partial(self._write, action))
         return ""
 
-    async def _in_a_thread(self, talk: Callable[[Any], Any]) -> Any:
-        return await asyncio.get_running_loop().run_in_executor(self._threads, self._exchange, talk)
+    async def _talk(self, thread: ThreadPoolExecutor, talk: Callable[[Any], Value]) -> Value:
+        given_up = threading.Event()
+        try:
+            return await asyncio.get_running_loop().run_in_executor(thread, self._exchange, talk, given_up)
+        finally:
+            given_up.set()
 
-    def _exchange(self, talk: Callable[[Any], Any]) -> Any:
+    def _exchange(self, talk: Callable[[Any], Value], given_up: threading.Event) -> Value:
         """Connects, and gives what the talk with the machine gives."""
         shown = f"{self._machine.host}:{self._machine.port}"
-        client = ModbusTcpClient(self._machine.host, port=self._machine.port, timeout=SECONDS)
+        # Newer clients send a command again, perhaps after the deadline, unless they have no retries.
+        client = ModbusTcpClient(self._machine.host, port=self._machine.port, timeout=SECONDS, retries=0)
         try:
             if not client.connect():
                 raise DeviceFailed(f"{shown} can't be reached")
+            if given_up.is_set():
+                raise DeviceFailed(f"{shown} was reached too late")
             return talk(client)
         except (ModbusException, OSError) as error:
             raise DeviceFailed(f"{shown}: {error}") from None
