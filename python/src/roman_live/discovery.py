@@ -5,9 +5,10 @@ All entities read the topic of the home's state, and are unavailable once the ho
 
 from __future__ import annotations
 
+import contextlib
 import json
 import re
-from collections.abc import Iterable, Iterator
+from collections.abc import Callable, Iterable, Iterator
 from typing import Any
 
 from roman_client import Document, __version__
@@ -22,35 +23,52 @@ Entity = dict[str, Any]
 
 
 class Discovery:
-    """The messages of a home at its broker. A message is published if it wasn't yet, or has changed."""
+    """The messages of a home at its broker. They are published when a service joins, at each new connection, since the
+    broker may have forgotten them, and when Home Assistant starts."""
 
-    def __init__(self, file: HomeFile, document: Document, broker: Connection, prefix: str) -> None:
+    def __init__(
+        self, file: HomeFile, document: Document, broker: Connection, prefix: str, changed: Callable[[], None]
+    ) -> None:
+        """Listens for Home Assistant, and for older messages. `changed` is called when `publish` has something to
+        do."""
         self._file = file
         self._document = document
         self._broker = broker
         self._prefix = prefix
         self._node = "roman_" + re.sub(r"[^A-Za-z0-9_-]", "_", broker.broker.prefix)
-        self._published: dict[str, str] = {}
-        self._connections = 0
+        self._changed = changed
+        self._published: tuple[object, ...] = ()
+        self._retained: set[str] = set()
+        broker.subscribe(f"{prefix}/status", self._hear_status)
+        broker.subscribe_all(f"{prefix}/+/{self._node}/+/config", self._hear_retained)
 
-    def forget(self) -> None:
-        """Publishes all messages again at the next occasion: Home Assistant, or the broker, has started."""
-        self._published.clear()
-
-    def hear_status(self, payload: bytes, retained: bool) -> None:
+    def _hear_status(self, payload: bytes, retained: bool) -> None:
         """Publishes all messages again when Home Assistant has started."""
         if payload == b"online":
-            self.forget()
+            self._published = ()
+            self._changed()
+
+    def _hear_retained(self, topic: str, payload: bytes, retained: bool) -> None:
+        """Notes a message of this home that the broker has retained, perhaps one of an older document."""
+        with contextlib.suppress(ValueError, RecursionError):
+            message = json.loads(payload)
+            own = isinstance(message, dict) and message.get("availability_topic") == self._broker.state_topic
+            if retained and own:
+                self._retained.add(topic)
+                self._changed()
 
     def publish(self, services: Iterable[str]) -> None:
-        """Publishes what is new, and all at a new connection: the broker may have forgotten what it kept."""
-        if self._connections != self._broker.connections:
-            self._connections = self._broker.connections
-            self.forget()
-        for topic, message in self.messages(services):
-            text = json.dumps(message)
-            if self._published.get(topic) != text and self._broker.send_now(topic, text, retain=True):
-                self._published[topic] = text
+        """Publishes all messages if they aren't published yet, and removes the retained ones of other entities."""
+        present = (self._broker.connections, *services)
+        if present == self._published and not self._retained:
+            return
+        messages = {topic: json.dumps(message) for topic, message in self.messages(services)}
+        for topic in sorted(self._retained - messages.keys()):
+            self._broker.send_now(topic, "", retain=True)
+        self._retained.clear()
+        if present != self._published:
+            if all([self._broker.send_now(topic, text, retain=True) for topic, text in messages.items()]):
+                self._published = present
 
     def messages(self, services: Iterable[str]) -> Iterator[tuple[str, Entity]]:
         """Each message with its topic."""

@@ -45,6 +45,9 @@ FIRST_WAIT = 5.0
 
 Listener = Callable[[bytes, bool], None]
 
+PatternListener = Callable[[str, bytes, bool], None]
+"""Receives the topic of a message, the message, and whether it is a retained one."""
+
 LateListener = Callable[[bytes, bool, Callable[[], None]], None]
 """Receives a message, whether the broker repeats it until it is acknowledged, and a call that acknowledges it."""
 
@@ -135,6 +138,18 @@ class Connection:
             self._of_newest.add(topic)
         if self.connected:
             self._subscribe(topic)
+
+    def subscribe_all(self, pattern: str, listener: PatternListener) -> None:
+        """Calls a listener with each message on the topics of a pattern, which may have wildcards."""
+
+        def hear(client: Any, data: Any, message: Any) -> None:
+            if not _is_too_long(message):
+                listener(message.topic, message.payload, bool(message.retain))
+
+        self._client.message_callback_add(pattern, hear)
+        self._listeners[pattern] = []
+        if self.connected:
+            self._subscribe(pattern)
 
     def _subscribe(self, topic: str) -> None:
         sent, number = self._client.subscribe(topic, qos=1)

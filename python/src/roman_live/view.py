@@ -46,9 +46,8 @@ class View:
         broker = self._home.fleet.broker
         if broker is None or broker.broker.discovery is None:
             return None
-        prefix = broker.broker.discovery
-        broker.subscribe(f"{prefix}/status", self._hear_status)
-        return Discovery(self._home.file, self._home.document, broker, prefix)
+        home = self._home
+        return Discovery(home.file, home.document, broker, broker.broker.discovery, home.dirty.set)
 
     async def state(self) -> dict[str, Any]:
         """The present state as JSON."""
@@ -213,12 +212,6 @@ class View:
         with contextlib.suppress(ValueError, RecursionError):
             if json.loads(payload) == GONE:
                 self._home.dirty.set()
-
-    def _hear_status(self, payload: bytes, retained: bool) -> None:
-        """Home Assistant says whether it is there."""
-        if self._discovery is not None:
-            self._discovery.hear_status(payload, retained)
-            self._home.dirty.set()
 
     async def _summary(self) -> dict[str, Any]:
         """The state in short, for others on the broker."""

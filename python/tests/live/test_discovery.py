@@ -161,6 +161,37 @@ def test_the_messages_come_again_when_home_assistant_starts(live: Live, assistan
     until(lambda: len(assistant.entities()) == 12, "the entities again")
 
 
+def config_of(topic: str) -> str:
+    return f"homeassistant/{topic}/config"
+
+
+def test_entities_that_are_no_more_are_removed(
+    live: Live, assistant: Assistant, broker: Mosquitto, tmp_path: Path
+) -> None:
+    """Those of a service that the document doesn't have any more, and of an environment that has a sensor now. What
+    isn't the home's own stays."""
+    until(lambda: len(assistant.entities()) == 12, "the entities")
+    live.stop()
+    texts = ('{"availability_topic": "cellar/state"}', "no JSON", "[" * 50_000, '["kitchen/state"]')
+    strangers = {config_of(f"sensor/roman_kitchen/other{number}"): text for number, text in enumerate(texts)}
+    for topic, text in strangers.items():
+        assistant.client.publish(topic, text, qos=1, retain=True).wait_for_publish(PATIENCE)
+    document = json.loads(Path(sample("home.json")).read_text(encoding="utf-8"))
+    document["services"] = [each for each in document["services"] if each["name"] != "kettle"]
+    (tmp_path / "home.json").write_text(json.dumps(document), encoding="utf-8")
+    text = live.file.read_text(encoding="utf-8").replace(sample("home.json"), "home.json")
+    live.file.write_text(f'{text}[environment]\nreach = "mqtt"\nstate_topic = "light"\n', encoding="utf-8")
+    live.start()
+    removed = {config_of("sensor/roman_kitchen/service_kettle"), config_of("select/roman_kitchen/environment")}
+    until(lambda: all(assistant.seen[topic] == "" for topic in removed), "the removal")
+    until(lambda: config_of("sensor/roman_kitchen/environment") in assistant.seen, "the sensor")
+    newcomer = Assistant(broker.port)
+    retained = {*strangers, *assistant.seen} - removed
+    until(lambda: retained <= set(newcomer.seen), "what is retained")
+    newcomer.stop()
+    assert removed.isdisjoint(newcomer.seen)
+
+
 FLOW = TOP / "samples" / "live" / "node-red" / "flow.json"
 
 NEEDED = {
