@@ -13,6 +13,8 @@ from aiohttp import ClientConnectorCertificateError, ClientConnectorError
 
 from roman_client import RomanError
 
+from .limits import one_line
+
 TEMPORARY_ERRORS = (RomanError, OSError)
 """Errors that may pass by themselves. A program that can't be started raises OSError."""
 
@@ -101,7 +103,7 @@ def check_files() -> None:
 
 def error_text(error: Exception) -> str:
     """The text of an error, or its kind if it has no text."""
-    return str(error) or type(error).__name__
+    return one_line(str(error)) or type(error).__name__
 
 
 def connection_error(error: ClientConnectorError) -> str:

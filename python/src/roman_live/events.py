@@ -13,7 +13,7 @@ from datetime import datetime, timezone
 from functools import cached_property
 from typing import Any, Deque, Optional
 
-from .limits import Bucket
+from .limits import Bucket, one_line
 
 LOG = logging.getLogger("roman_live")
 
@@ -97,6 +97,7 @@ class EventLog:
 
     def add(self, kind: str, text: str, *, level: int = logging.INFO, **details: Any) -> None:
         """Adds an event, and logs it at this level. Events from outside that come too often are dropped."""
+        text = one_line(text)
         if kind in FROM_OUTSIDE and not self._is_seldom(kind, details.get("service")):
             return
         LOG.log(level, "%s", text)

@@ -25,6 +25,7 @@ from .devices.maps import Map, check_map, check_states, check_words
 from .environment import EnvironmentSensor
 from .errors import TEMPORARY_ERRORS, NoDevice, NoSpace, UnknownState, error_text
 from .events import EventLog
+from .limits import one_line
 from .moves import PAUSE, Moves
 from .mqtt_api import Connection
 from .polling import poll
@@ -309,10 +310,10 @@ class Fleet:
         environment = self.document.environment
         if answer.state not in behaviour.states:
             known = f"none of {behaviour.name}'s states: {', '.join(behaviour.states)}"
-            raise UnknownState(f"{service} says it is in {answer.state}, which is {known}")
+            raise UnknownState(f"{service} says it is in {one_line(answer.state)}, which is {known}")
         if answer.environment is not None and answer.environment not in environment.states:
             known = f"none of its states: {', '.join(environment.states)}"
-            raise UnknownState(f"{service} says the environment is in {answer.environment}, which is {known}")
+            raise UnknownState(f"{service} says the environment is in {one_line(answer.environment)}, which is {known}")
 
     async def die(self, service: str, source: str | None = None) -> None:
         """Removes a service for good."""
@@ -500,7 +501,7 @@ class Fleet:
             self.registry[service].last_error = str(error)
             return False
         except (Refusal, TypeError, ValueError) as error:
-            self.registry[service].last_error = f"says it is in {answer.state}: {error}"
+            self.registry[service].last_error = one_line(f"says it is in {answer.state}: {error}")
             return False
         except TEMPORARY_ERRORS as error:
             LOG.warning("%s can't be thawed: %s", service, error)

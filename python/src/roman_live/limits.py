@@ -12,6 +12,9 @@ LONGEST_BODY = 65_536
 LONGEST_NAME = 256
 """The most bytes of a key, and of a name that a request brings."""
 
+LONGEST_TEXT = 500
+"""The most letters of a text that a device or a stranger brings into a log, an event or an error."""
+
 Clock = Callable[[], float]
 
 
@@ -36,6 +39,13 @@ class Limits:
 
     unread: float = 10.0
     """How many seconds a listener may leave events unread."""
+
+
+def one_line(text: str, most: int = LONGEST_TEXT) -> str:
+    """A text from outside as a line of at most so many letters. Letters that can't be printed are escaped, such as ends
+    of lines and the control characters of terminals."""
+    shown = text if len(text) <= most else f"{text[:most - 3]}..."
+    return "".join(each if each.isprintable() else each.encode("unicode_escape").decode() for each in shown)
 
 
 class Bucket:

@@ -4,6 +4,7 @@ functions that hang."""
 from __future__ import annotations
 
 import asyncio
+import gzip
 import os
 import signal
 import ssl
@@ -11,19 +12,26 @@ import subprocess
 import sys
 import tempfile
 import threading
+from collections.abc import Callable
 from contextlib import AsyncExitStack
 from pathlib import Path
 from typing import Any
 from unittest import mock
 
 import pytest
+from aiohttp import web
+from aiohttp.test_utils import TestServer
 
 from roman_client import Call, DeviceFailed
-from roman_live.config import CommandReach, HomeFileError, HttpReach, PythonReach
+from roman_live.config import CommandReach, HomeFileError, HttpReach, MqttReach, PythonReach
 from roman_live.devices import Answer, Reach
+from roman_live.devices.base import LONGEST_ANSWER, answer_of, short
 from roman_live.devices.command import Command, LineCommand
 from roman_live.devices.http import Http
+from roman_live.devices.maps import Reading
+from roman_live.devices.mqtt import Mqtt
 from roman_live.devices.python import PythonDevice
+from roman_live.events import EventLog
 from roman_live.processes import Processes
 
 from .machinery import PATIENCE, free_port
@@ -167,6 +175,76 @@ async def test_each_call_has_its_connection(at_end: AsyncExitStack) -> None:
         for _ in range(3):
             answer = await asyncio.wait_for(device.tell(None), PATIENCE)
             assert answer == Answer("on")
+
+
+async def test_a_compressed_answer_stays_small(at_end: AsyncExitStack) -> None:
+    """The device compresses though it wasn't asked to."""
+    body = gzip.compress(b" " * 50_000_000)
+    assert len(body) < LONGEST_ANSWER
+    asked = []
+
+    async def serve(request: web.Request) -> web.Response:
+        asked.append(request.headers["Accept-Encoding"])
+        return web.Response(body=body, headers={"Content-Encoding": "gzip"})
+
+    app = web.Application()
+    app.add_routes([web.get("/", serve)])
+    server = TestServer(app)
+    at_end.push_async_callback(server.close)
+    await server.start_server()
+    device = await http_device(at_end, str(server.make_url("/")))
+    with pytest.raises(DeviceFailed, match="which is no JSON$"):
+        await asyncio.wait_for(device.tell(None), PATIENCE)
+    assert asked == ["identity"]
+
+
+@pytest.mark.parametrize(
+    "text, shown",
+    [
+        ("stuck", "stuck"),
+        ("a\n<2>b", "a\\n<2>b"),
+        ("\x1b[2J", "\\x1b[2J"),
+        ("\ud800", "\\ud800"),
+        ("ä€", "ä€"),
+        ("x" * 60_000, "x" * 497 + "..."),
+    ],
+)
+async def test_what_a_device_says_is_one_short_line(caplog: pytest.LogCaptureFixture, text: str, shown: str) -> None:
+    """In an error, in a reading without a state, and in an event."""
+    with pytest.raises(DeviceFailed) as raised:
+        answer_of({"error": text})
+    assert str(raised.value) == shown
+    unknown = Reading(text, None).unknown
+    assert unknown.isprintable() and len(unknown) < 600
+    assert short(text.encode(errors="replace")).isprintable()
+    events = EventLog()
+    with caplog.at_level("INFO", "roman_live"):
+        events.add("wrong", text)
+    assert [each.text for each in events.after("")] == [shown]
+    assert caplog.messages == [shown]
+
+
+class Broker:
+    """A broker that takes nothing, and passes on what a device says."""
+
+    def subscribe(self, topic: str, listener: Callable[[bytes, bool], None]) -> None:
+        self.say = listener
+
+    def publish_now(self, topic: str, value: Any) -> bool:
+        return True
+
+
+async def test_only_the_number_of_a_call_answers_it() -> None:
+    heard, broker = Heard(), Broker()
+    device = Mqtt("lamp", heard, MqttReach("ask", "answer"), broker)  # type: ignore[arg-type]
+    await device.open()
+    call = asyncio.create_task(device.ask(1, CALL))
+    await asyncio.sleep(0)
+    for number in ("true", "1.0", '"1"', "[1]", "2", f'"{"1" * 60_000}"', "1" * 60_000, "NaN"):
+        broker.say(f'{{"id": {number}, "state": "off"}}'.encode(), False)
+    assert len(heard.texts) == 8 and max(map(len, heard.texts)) < 200
+    broker.say(b'{"id": 1, "state": "on"}', False)
+    assert await call == Answer("on")
 
 
 def python_device(at_end: AsyncExitStack, found: Any) -> PythonDevice:

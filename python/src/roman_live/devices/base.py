@@ -9,6 +9,8 @@ from typing import Any, Protocol
 
 from roman_client import Call, DeviceFailed, DeviceTimeout
 
+from ..limits import one_line
+
 DEADLINE = 10.0
 """How many seconds a device may take, unless the home file or the device gives another number."""
 
@@ -98,7 +100,7 @@ def answer_of(value: Any) -> Answer:
     if not isinstance(value, dict):
         raise DeviceFailed(f"answered {short(value)}, which is no object")
     if isinstance(value.get("error"), str):
-        raise DeviceFailed(value["error"])
+        raise DeviceFailed(one_line(value["error"]))
     state, environment, done = value.get("state"), value.get("environment"), value.get("done")
     if not isinstance(state, str):
         raise DeviceFailed(f"answered {short(value)}, without a state")
@@ -117,5 +119,4 @@ def json_of(data: bytes) -> Any:
 
 def short(value: Any) -> str:
     """A value as a short text."""
-    text = value.decode(errors="replace") if isinstance(value, bytes) else repr(value)
-    return text if len(text) <= 80 else f"{text[:77]}..."
+    return one_line(value.decode(errors="replace") if isinstance(value, bytes) else repr(value), 80)

@@ -16,6 +16,7 @@ from roman_client.aio.streams import abandon
 
 from ..config import CommandReach
 from ..errors import check_file_limit
+from ..limits import one_line
 from ..processes import Processes, lock, unlock
 from .base import LONGEST_ANSWER, STATE_WORD, Answer, Listener, Reach, short
 
@@ -87,7 +88,7 @@ class Command(Reach):
         status = transport.get_returncode()
         if status != 0:
             last = written.errors.decode(errors="replace").strip().splitlines()[-1:]
-            raise DeviceFailed(f"ended with status {status}: {''.join(last)}".rstrip(": "))
+            raise DeviceFailed(f"ended with status {status}: {one_line(''.join(last))}".rstrip(": "))
         return _answer(bytes(written.output))
 
 

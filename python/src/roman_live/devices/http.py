@@ -25,8 +25,11 @@ class Client:
 
     async def open(self) -> None:
         """Prepares for requests."""
-        # The dispatcher has the deadline; redirects, proxies and cookies aren't for devices.
+        # The dispatcher has the deadline. Redirects, proxies and cookies aren't for devices, and nor is compression:
+        # a short answer could become one that fills the memory.
         self._client = aiohttp.ClientSession(
+            auto_decompress=False,
+            headers={"Accept-Encoding": "identity"},
             connector=aiohttp.TCPConnector(force_close=True),
             timeout=aiohttp.ClientTimeout(total=None),
             cookie_jar=aiohttp.DummyCookieJar(),

@@ -15,6 +15,7 @@ from urllib.parse import urljoin
 from roman_client import Document
 from roman_client.documents import Machine
 
+from ..limits import one_line
 from ..tables import HomeFileError, Table, UnusableValue, one_of, seconds, secret, text, topic, url, whole
 from ..templates import Template, TemplateFailed, command_template, json_template, message_template, message_values
 
@@ -36,7 +37,7 @@ class Reading:
     @property
     def unknown(self) -> str:
         """The error for a value that stands for no state."""
-        return f"says {self.said!r}, which is in none of its states"
+        return f"says {one_line(repr(self.said))}, which is in none of its states"
 
 
 @dataclass(frozen=True)

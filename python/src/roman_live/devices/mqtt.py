@@ -10,7 +10,7 @@ from roman_client import Call, DeviceFailed, DeviceLost
 
 from ..config import MqttReach
 from ..mqtt_api import Connection
-from .base import Answer, Listener, Reach, answer_of, json_of
+from .base import Answer, Listener, Reach, answer_of, json_of, short
 
 
 class Mqtt(Reach):
@@ -70,10 +70,10 @@ class Mqtt(Reach):
         except DeviceFailed as error:
             self.listener.late(self.service, str(error))
             return
-        answer = self._waiting.get(number) if isinstance(number, int) else None
+        answer = self._waiting.get(number) if type(number) is int else None
         if answer is None or answer.done():
             if not retained:
-                self.listener.late(self.service, f"answered to {number}, which nobody waits for")
+                self.listener.late(self.service, f"answered to {short(number)}, which nobody waits for")
             return
         try:
             answer.set_result(answer_of(value))

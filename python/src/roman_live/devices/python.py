@@ -3,6 +3,7 @@
 from __future__ import annotations
 
 import asyncio
+import contextlib
 import importlib
 import inspect
 import sys
@@ -16,7 +17,7 @@ from roman_client import Call, aio
 from roman_client.aio.dispatcher import settle
 
 from ..config import HomeFileError, PythonReach
-from .base import Answer, Listener, Reach
+from .base import Answer, Listener, Reach, short
 
 
 class PythonDevice(Reach):
@@ -75,7 +76,7 @@ class PythonDevice(Reach):
                 value = call(*words)
             except BaseException as error:
                 failure = _failure(error)
-            if not loop.is_closed():
+            with contextlib.suppress(RuntimeError):  # The home may have ended meanwhile.
                 loop.call_soon_threadsafe(ended, value, failure)
 
         self._at_work = True
@@ -135,4 +136,4 @@ def _answer(value: Any) -> Answer:
         return Answer(value)
     if isinstance(value, (tuple, list)) and len(value) == 2 and all(isinstance(each, str) for each in value):
         return Answer(value[0], value[1])
-    raise roman_client.DeviceFailed(f"gave {value!r}, which is no outcome")
+    raise roman_client.DeviceFailed(f"gave {short(value)}, which is no outcome")
