@@ -159,9 +159,10 @@ def words(value: Any) -> tuple[str, ...]:
 def url(value: Any) -> str:
     """A URL of http or https."""
     try:
-        place = urlsplit(value if isinstance(value, str) else "")
+        place = urlsplit(value if isinstance(value, str) and value.isprintable() and " " not in value else "")
         known = place.scheme in ("http", "https") and bool(place.hostname) and place.port != 0
-    except ValueError:  # Its port is no number of a port, or a bracket is missing.
+        (place.hostname or "").encode("idna")
+    except ValueError:  # Its port is no number of a port, a bracket is missing, or a part of its host is too long.
         known = False
     if not known:
         raise ValueError('a URL, as "http://192.168.1.20/blind"')

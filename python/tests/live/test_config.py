@@ -124,6 +124,9 @@ WRONG = (
         "devices.fan.late is 'never', and not one of 'failure', 'doubt'",
     ),
     (f'{DEVICE}"http"\nurl = "http://x"\npoll = 0', "devices.fan.poll is 0, and not a number of seconds"),
+    (f'{DEVICE}"http"\nurl = "http://x/a b"', "devices.fan.url is 'http://x/a b', and not a URL"),
+    (f'{DEVICE}"http"\nurl = "http://x/\\n"', "devices.fan.url is 'http://x/\\n', and not a URL"),
+    (f'{DEVICE}"http"\nurl = "http://{"x" * 64}.org"', "and not a URL"),
     (
         'document = "h"\n[mqtt]\n[devices.fan]\nreach = "mqtt"\nask = "a"\nanswer = "b"\npoll = 1',
         "devices.fan.poll isn't known",

@@ -24,7 +24,7 @@ from roman_live.devices import Answer, modbus
 from roman_live.devices.factory import make_mapped
 from roman_live.devices.mapped import MappedReach, Outcomes
 from roman_live.devices.mapped_http import MappedHttp
-from roman_live.devices.maps import Map, MqttMap, Reading, check_map
+from roman_live.devices.maps import HttpMap, Map, MqttMap, Reading, check_map
 from roman_live.errors import NoSpace
 from roman_live.polling import poll
 
@@ -152,6 +152,12 @@ MISTAKES = [
     (
         HTTP,
         "[devices.ceiling.actions]",
+        'headers = {"A: B" = "x"}\n[devices.ceiling.actions]',
+        "headers.A: B isn't the name of a header",
+    ),
+    (
+        HTTP,
+        "[devices.ceiling.actions]",
         "poll = 0\n[devices.ceiling.actions]",
         "poll is 0, and not a number of seconds",
     ),
@@ -199,6 +205,15 @@ def test_a_mistake_is_found_with_table_and_key(tmp_path: Path, text: str, old: s
 @pytest.mark.parametrize("text", [MQTT, HTTP, MODBUS])
 def test_these_maps_are_right(tmp_path: Path, text: str) -> None:
     check_map(WHERE, map_of(tmp_path, text), Document.load(sample("home.json")), "lamp")
+
+
+def test_an_action_has_its_own_headers(tmp_path: Path) -> None:
+    """Names of headers have no case."""
+    text = HTTP.replace("[devices.ceiling.actions]", 'headers = {A = "1", B = "2"}\n[devices.ceiling.actions]')
+    found = map_of(tmp_path, text.replace('"?turn=on"', '"?turn=on", headers = {a = "3"}'))
+    assert isinstance(found, HttpMap)
+    assert {name.lower(): value for name, value in found.actions["brighten"].headers.items()} == {"a": "3", "b": "2"}
+    assert len(found.actions["brighten"].headers) == 2
 
 
 def test_what_messages_stand_for(tmp_path: Path) -> None:

@@ -4,6 +4,8 @@ from __future__ import annotations
 
 import json
 
+from multidict import CIMultiDict
+
 from roman_client import Call, DeviceFailed
 
 from ..templates import TemplateFailed, rendered
@@ -40,7 +42,7 @@ class MappedHttp(PolledReach):
 
     async def _request(self, action: HttpAction, values: dict[str, object]) -> str:
         """Sends a request, and returns the text of its answer."""
-        headers, body = dict(action.headers), None
+        headers, body = CIMultiDict(action.headers), None
         try:
             if action.json is not None:
                 headers.setdefault("Content-Type", "application/json")

@@ -6,11 +6,14 @@ The keys are those of Home Assistant's MQTT integration, if it has one for the p
 
 from __future__ import annotations
 
+import re
 from collections.abc import Collection, Mapping
 from dataclasses import dataclass, field
 from pathlib import Path
 from typing import Any
 from urllib.parse import urljoin
+
+from multidict import CIMultiDict
 
 from roman_client import Document
 from roman_client.documents import Machine
@@ -245,10 +248,15 @@ def _http_action(table: Table, base: str | None, headers: Headers, folder: Path)
     if payload is not None and json is not None:
         raise table.wrong("json", "is there, and so is payload")
     method = table.take("method", one_of(METHODS), "GET" if payload is None and json is None else "POST")
-    all_headers = {**headers, **_headers(table, folder)}
+    all_headers = CIMultiDict(headers)
+    all_headers.update(_headers(table, folder))
     action = HttpAction(method, where, all_headers, payload, json, state=table.take("state", text, None))
     table.end()
     return action
+
+
+HEADER = re.compile(r"[!#$%&'*+.^`|~\w-]+", re.ASCII)
+"""The name of a header."""
 
 
 def _headers(table: Table, folder: Path) -> Headers:
@@ -265,7 +273,9 @@ def _headers(table: Table, folder: Path) -> Headers:
                 raise given.wrong("file", 'is missing, as in {file = "token", prefix = "Bearer "}')
             given.end()
             value = prefix + value
-        if not isinstance(value, str) or any(ord(letter) < 32 for letter in value):
+        if HEADER.fullmatch(name) is None:
+            raise inner.wrong(name, "isn't the name of a header")
+        if not isinstance(value, str) or any(ord(letter) < 32 or letter == "\x7f" for letter in value):
             raise inner.wrong(name, 'is neither a text nor a file, as {file = "token", prefix = "Bearer "}')
         headers[name] = value
     return headers
