@@ -34,7 +34,7 @@ def number(kind: Callable[[Any], Any]) -> Callable[..., Any]:
     def convert(value: Any, *default: Any) -> Any:
         try:
             return kind(float(value))
-        except (TypeError, ValueError, UndefinedError):
+        except (OverflowError, TypeError, ValueError, UndefinedError):
             if not default:
                 raise
             return default[0]
@@ -72,7 +72,7 @@ class Template:
         """The text for these values, without blanks at its ends. Raises TemplateFailed."""
         try:
             return self._template.render(values).strip()
-        except (TemplateError, ArithmeticError, LookupError, TypeError, ValueError) as error:
+        except Exception as error:  # A filter may raise anything for a message that it isn't made for.
             raise TemplateFailed(str(error)) from None
 
     def __eq__(self, other: object) -> bool:

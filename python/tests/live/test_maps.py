@@ -245,6 +245,9 @@ def test_a_template_is_in_a_sandbox(tmp_path: Path) -> None:
         ("{{ value_json.a.b.c }}", None),
         ("{{ value_json.gone | is_defined }}", None),
         ("{{ 1 // 0 }}", None),
+        ("{{ '1e999' | int(7) }}", "7"),
+        ("{{ value | dictsort }}", None),
+        ("{{ ('[' * 100000) | from_json }}", None),
     ],
 )
 def test_templates_of_home_assistant(tmp_path: Path, template: str, said: str | None) -> None:
