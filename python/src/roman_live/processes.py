@@ -33,6 +33,7 @@ class Processes:
 
     def __init__(self, path: Path) -> None:
         self._path = path
+        self._real = os.path.realpath(path)
 
     @contextlib.contextmanager
     def at_work(self, number: int) -> Iterator[int]:
@@ -53,7 +54,8 @@ class Processes:
     def open(self) -> int:
         """Opens the file for a lasting command. Raises NoSpace if no files are left."""
         try:
-            return os.open(self._path, os.O_RDWR | os.O_CREAT | os.O_CLOEXEC, 0o644)
+            # Another user who could open it could hold its locks.
+            return os.open(self._path, os.O_RDWR | os.O_CREAT | os.O_CLOEXEC, 0o600)
         except OSError as error:
             check_file_limit(error)
             raise
@@ -101,7 +103,7 @@ class Processes:
     def _holds(self, process: Path, mark: str) -> bool:
         try:
             for file in (process / "fd").iterdir():
-                if os.readlink(file) == str(self._path):
+                if os.readlink(file) == self._real:
                     info = (process / "fdinfo" / file.name).read_text(encoding="ascii")
                     if any(line.startswith("lock:") and line.endswith(mark) for line in info.splitlines(True)):
                         return True

@@ -68,6 +68,20 @@ def test_it_is_ended_at_its_deadline(tmp_path: Path, started: list[subprocess.Po
     assert command.wait(PATIENCE) == -signal.SIGKILL
 
 
+def test_it_is_ended_behind_a_link(tmp_path: Path, started: list[subprocess.Popen[bytes]]) -> None:
+    """The folder of the store has another name, too."""
+    (tmp_path / "real").mkdir()
+    (tmp_path / "linked").symlink_to("real")
+    command = leave(tmp_path / "linked", started, "sleep", "1000")
+    asyncio.run(asyncio.wait_for(Processes(tmp_path / "linked" / "commands").end(NUMBER, 0.1), PATIENCE))
+    assert command.wait(PATIENCE) == -signal.SIGKILL
+
+
+def test_no_other_user_can_hold_its_locks(tmp_path: Path) -> None:
+    with Processes(tmp_path / "commands").file():
+        assert (tmp_path / "commands").stat().st_mode & 0o077 == 0
+
+
 def test_what_a_command_left_running_is_not_its_work(tmp_path: Path, started: list[subprocess.Popen[bytes]]) -> None:
     command = leave(tmp_path, started, "sh", "-c", "sleep 1000 & echo on")
     assert command.wait(PATIENCE) == 0
