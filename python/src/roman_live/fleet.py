@@ -216,7 +216,8 @@ class Fleet:
         self.retries.start_all(at_once=True)
 
     async def close(self) -> None:
-        """Closes all devices."""
+        """Stops all work in the background. What devices report from now on is ignored."""
+        self._ready = False
         self.moves.hold()
         await self.background.close()
         await self.retries.close()

@@ -192,6 +192,8 @@ class View:
                     self.listener(self._line(await self._present_report()))
             except TEMPORARY_ERRORS as error:
                 LOG.warning("the state can't be had: %s", error)
+            except Exception:
+                LOG.exception("the state can't be published")
             await asyncio.sleep(BETWEEN_STATES)
 
     def _line(self, report: Report) -> str:

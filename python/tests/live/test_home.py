@@ -645,6 +645,26 @@ async def test_the_state_is_told_when_it_is_there_again(away: Away, caplog: pyte
             break
 
 
+async def test_an_unexpected_error_ends_no_publishing(homes: InProcess, caplog: pytest.LogCaptureFixture) -> None:
+    home = await homes.begin("home")
+    listener = home.events.listen()
+    with mock.patch.object(home.view, "state", side_effect=KeyError("lost")):
+        home.dirty.set()
+        await homes.until(lambda: "the state can't be published" in caplog.messages)
+    home.dirty.set()
+    assert (await asyncio.wait_for(listener.get(), 60)) is not None
+
+
+async def test_what_comes_at_the_end_is_ignored(homes: InProcess) -> None:
+    home = await homes.begin("home")
+    await home.fleet.close()
+    tasks = asyncio.all_tasks()
+    homes.told.clear()
+    home.fleet._broker_changed(True, "the broker is there")
+    home.fleet.moved("window", Answer("ajar"))
+    assert asyncio.all_tasks() == tasks and not home.fleet.moves.is_open
+
+
 async def test_moves_before_the_beginning(homes: InProcess) -> None:
     homes.states["window"] = "ajar"
     home = await homes.begin("home")
