@@ -414,6 +414,27 @@ def test_what_looks_like_markup_is_text(browsing: Browsing) -> None:
     assert browsing.driver.find_elements("css selector", "b") == []
 
 
+def test_names_that_javascript_has_too(browsing: Browsing) -> None:
+    home = Played()
+    browsing.at_end.callback(home.close)
+    text = (home.folder / "home.json").read_text(encoding="utf-8")
+    for name, other in (("brighten", "constructor"), ("ceiling", "toString"), ("on", "__proto__"), ("day", "valueOf")):
+        text = text.replace(f'"{name}"', f'"{other}"')
+    (home.folder / "home.json").write_text(text, encoding="utf-8")
+    home.begin()
+    browsing.driver.get_log("browser")
+    browsing.open(home)
+    browsing.find("#drawing summary").click()
+    wait_until(lambda: browsing.find("#drawn svg"), "the drawing")
+    assert browsing.press("actions", "constructor") == "constructor"
+    browsing.wait_for_service("window", "▶ at work")
+    browsing.press("outcomes", "It fails")
+    assert browsing.press("outcomes", "toString is __proto__") == "toString is __proto__"
+    browsing.wait_for_text("result", "toString served constructor, and is __proto__.")
+    assert browsing.text("environment") == "It is valueOf."
+    assert browsing.complaints() == []
+
+
 WORDS = """
 title = "Our kitchen"
 [words.actions]
