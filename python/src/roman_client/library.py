@@ -53,7 +53,7 @@ def part_names(text: bytes) -> Iterator[str]:
     """The names of the part files in a document, as far as it is one."""
     try:
         document = json.loads(text)
-    except ValueError:
+    except (ValueError, RecursionError):
         return
     members: list[Any] = [*document.values()] if isinstance(document, dict) else []
     for member in members:
@@ -152,6 +152,9 @@ class InProcess:
     def poll(self) -> int | None:
         """The status of the program that would have ended as this session did, or None while it goes on."""
         return None if self._ended is None else self._ended.status
+
+    def interrupt(self) -> None:
+        """Does nothing: an answer of the library can't be interrupted."""
 
     def close(self) -> int:
         """Ends the session, and returns the program's status."""

@@ -69,6 +69,10 @@ class Pipes:
             self.stop()
             raise
 
+    def interrupt(self) -> None:
+        """Ends the program, so that the thread that waits for a reply stops waiting."""
+        self.process.kill()
+
     def close(self) -> int:
         """Closes the input, ends the program if it doesn't end by itself, and returns its status."""
         assert self.process.stdin is not None

@@ -15,6 +15,9 @@ from .protocol import LONGEST, Conversation, Effect, Event, Exchange, Program, S
 from .replies import Explanation, Move, Offer, Repair, Report
 from .snapshots import Snapshot
 
+MOMENT = 0.1
+"""How many seconds the end of a session waits for the call of another thread before it interrupts it."""
+
 
 class Session:
     """A running program that answers the lines of a session.
@@ -179,8 +182,14 @@ class Session:
         return self.core.longest - self.core.sent
 
     def close(self) -> int:
-        """Closes the input, ends the program if it doesn't end by itself, and returns its status."""
-        return self._running().close()
+        """Closes the input, ends the program if it doesn't end by itself, and returns its status. A call of another
+        thread that waits for a long reply is interrupted, and raises `ProgramEnded`."""
+        while not self._turn.acquire(timeout=MOMENT):
+            self._running().interrupt()
+        try:
+            return self._running().close()
+        finally:
+            self._turn.release()
 
     def __enter__(self) -> Session:
         return self

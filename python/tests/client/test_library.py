@@ -69,6 +69,10 @@ def test_part_files_are_put_on_the_shelf() -> None:
         assert session.report().services
 
 
+def test_a_deep_document_names_no_part_files() -> None:
+    assert list(part_names(b"[" * 100_000)) == []
+
+
 def test_a_library_that_is_not_there() -> None:
     with pytest.raises(OSError):
         roman_client.Session(sample("home.json"), library="/nowhere/libroman.so")

@@ -1,16 +1,19 @@
 """What a session makes of programs that die, hang, flood their output or talk nonsense."""
 
+import ctypes
 import os
 import signal
 import sys
+import threading
 import time
 from collections.abc import Iterator
+from typing import Any
 from unittest import mock
 
 import pytest
 
 import roman_client as roman
-from roman_client import Session, pipes
+from roman_client import Session, library, pipes
 
 OPENING = (
     r"pairs 4\nrelated 2\nenvironment e\ntarget off final\n"
@@ -204,3 +207,71 @@ sys.stdin.readline()
 def test_a_slow_last_reply() -> None:
     with session("sys.stdin.readline(); time.sleep(0.5); say('bye\\n')") as talk:
         assert talk.quit() == 0
+
+
+class Answering(threading.Thread):
+    """A thread that requests something from a session."""
+
+    def __init__(self, talk: Session) -> None:
+        super().__init__(daemon=True)
+        self.error: Exception | None = None
+        self._talk = talk
+        self.start()
+
+    def run(self) -> None:
+        try:
+            self._talk.do("on")
+        except Exception as error:
+            self.error = error
+
+
+def test_the_end_of_a_session_interrupts_a_call_of_another_thread() -> None:
+    talk = session(f"time.sleep({LONG})")
+    with mock.patch.object(pipes.Pipes, "_send", side_effect=pipes.Pipes._send, autospec=True) as sent:
+        waiting = Answering(talk)
+        while not sent.called:
+            time.sleep(0.01)
+        assert talk.close() == -signal.SIGKILL
+    waiting.join(LONG)
+    assert isinstance(waiting.error, roman.ProgramEnded)
+
+
+class SlowLibrary:
+    """A library whose answer to a request takes its time."""
+
+    def __init__(self) -> None:
+        self.done: list[str] = []
+        self.asked, self.go_on = threading.Event(), threading.Event()
+        self._reply = OPENING.replace("\\n", "\n").encode()
+        self.roman_add = self.roman_open = self.roman_clear = mock.Mock(return_value=0)
+
+    def roman_answer(self, session: Any, line: bytes, length: int) -> int:
+        if line == b"do on":
+            self.asked.set()
+            assert self.go_on.wait(LONG)
+            self.done.append("answered")
+            self._reply = b"offer l1\n"
+        return 0
+
+    def roman_reply(self, session: Any, at: int, room: Any, length: int) -> int:
+        ctypes.memmove(room, self._reply, min(length, len(self._reply)))
+        return len(self._reply)
+
+    def roman_close(self, session: Any) -> None:
+        self.done.append("closed")
+
+
+def test_the_end_of_a_session_waits_for_an_answer_of_the_library() -> None:
+    """The library must not lose the session while it answers."""
+    slow = SlowLibrary()
+    with mock.patch.object(library, "load_library", return_value=slow):
+        talk = Session("system", library=True)
+        waiting = Answering(talk)
+        assert slow.asked.wait(LONG)
+        closing = threading.Thread(target=talk.close)
+        closing.start()
+        closing.join(0.3)
+        slow.go_on.set()
+        waiting.join(LONG)
+        closing.join(LONG)
+    assert slow.done == ["answered", "closed"] and waiting.error is None
