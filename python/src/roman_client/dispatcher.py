@@ -235,10 +235,14 @@ class Dispatcher:
         return future
 
     def _drain(self) -> None:
-        """Does what was posted, unless somebody has the turn, who will."""
+        """Makes the posted changes, unless another thread has the turn and will make them. An error of the session or
+        the store isn't raised here, since it would hide the result of a request."""
         while self.core.inbox and self._turn.acquire(blocking=False):
             try:
                 protocol.run(self.core.turn(_nothing), self._perform)
+            except Exception as error:
+                LOG.warning("what was posted waits for the next turn: %r", error)
+                return
             finally:
                 self._turn.release()
 

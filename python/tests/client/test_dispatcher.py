@@ -14,11 +14,13 @@ from collections.abc import Callable
 from concurrent.futures import Future, ThreadPoolExecutor
 from pathlib import Path
 from typing import Any, List
+from unittest import mock
 
 import pytest
 
 import roman_client as roman
 from roman_client import Dispatcher, LeastCost, Session, protocol
+from roman_client.core import Dispatching
 
 from . import PROGRAM, TOP, sample
 
@@ -223,6 +225,27 @@ def test_an_interrupt_freezes_the_service() -> None:
             dispatcher.request("on")
         assert dispatcher.failed == {"l1"}
         assert dispatcher.request("on").service == "l2"
+
+
+def test_a_change_that_waits_hides_no_result() -> None:
+    """It can't be made when the request ends, and is made with the next one."""
+    changes: list[Future[None]] = []
+    broken = mock.patch.object(Dispatching, "drain", side_effect=OSError("no program"))
+
+    def watch(notice: roman.Notice) -> None:
+        if isinstance(notice, roman.Done) and not changes:
+            changes.append(dispatcher.post(protocol.jumpenv("e")))
+            broken.start()
+
+    with lamps(1) as session:
+        dispatcher = Dispatcher(session, {"l1": works}, watch=watch)
+        try:
+            assert dispatcher.request("on").target == "on"
+        finally:
+            broken.stop()
+        assert not changes[0].done()
+        dispatcher.request("off")
+        assert changes[0].result(0) is None
 
 
 # Devices that hang, programs that die, services that were frozen, and changes that come meanwhile.
