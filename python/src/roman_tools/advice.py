@@ -22,9 +22,13 @@ from .documents import plain_file, read
 from .findings import Level, in_order
 from .lint import CLEAN, UNREADABLE, WRONG
 from .offers_picture import Arena, Pair
+from .pictures import Wrong
 
 MOST = 100
 """How many rows the table has without --all."""
+
+NUMBER = "([0-9]{1,20})"
+"""A number in what `advise` writes."""
 
 
 @dataclass(frozen=True)
@@ -44,7 +48,7 @@ class Advice:
         self.arena = arena
         self.costs = costs
         self.values: dict[tuple[int, int], int] = {}
-        for horizon, pair, worst in re.findall(r"^value (\d+) (\d+) (\d+)$", text, re.M):
+        for horizon, pair, worst in re.findall(rf"^value {NUMBER} {NUMBER} {NUMBER}$", text, re.M):
             self.values[int(horizon), int(pair)] = int(worst)
         self.horizon = max((horizon for horizon, _ in self.values), default=0)
 
@@ -53,6 +57,8 @@ class Advice:
         number = self.arena.number(pair)
         if (1, number) not in self.values:
             return None
+        if horizon and (horizon, number) not in self.values:
+            raise Wrong(f"there is no line `value {horizon} {number} ..`: this is advice about another system")
         return self.values[horizon, number] if horizon else 0
 
     def choices(self, pair: Pair) -> Iterator[Choice]:
@@ -104,7 +110,8 @@ def table(advice: Advice, most: int | None) -> Iterator[str]:
 def written_by(asked: argparse.Namespace, document: str, costs: str) -> tuple[int, str]:
     """The status of `advise`, and what it writes; what a file has of it, with status 0."""
     if asked.source is not None:
-        return CLEAN, sys.stdin.read() if asked.source == "-" else Path(asked.source).read_text(encoding="utf-8")
+        data = sys.stdin.buffer.read() if asked.source == "-" else Path(asked.source).read_bytes()
+        return CLEAN, data.decode(errors="replace")
     roman = program.find(asked.program)
     if roman is None:
         print("roman-advice: the program isn't here; ./build makes it", file=sys.stderr)
@@ -138,18 +145,22 @@ def main(arguments: Sequence[str] | None = None) -> int:
             return WRONG
         with plain_file(checker.document) as document:
             status, text = written_by(asked, document, reader.plain())
+        worst = re.search(rf"^worst {NUMBER}$", text, re.M)
+        if worst is None:
+            print(text, end="")
+            return status
+        advice = Advice(Arena(checker.document, set()), reader.by_behaviour(), text)
+        rows = list(table(advice, None if asked.all else MOST))
     except OSError as error:
         if error.filename is None:
             raise  # What it writes can't be written.
         print(f"roman-advice: {error.filename}: {error.strerror}", file=sys.stderr)
         return UNREADABLE
-    worst = re.search(r"^worst (\d+)$", text, re.M)
-    if worst is None:
-        print(text, end="")
-        return status
-    advice = Advice(Arena(checker.document, set()), reader.by_behaviour(), text)
+    except Wrong as error:
+        print(f"roman-advice: {error}", file=sys.stderr)
+        return UNREADABLE
     print(f"the next {advice.horizon} requests from the start cost {worst[1]} at worst\n")
-    print(*table(advice, None if asked.all else MOST), sep="\n")
+    print(*rows, sep="\n")
     return status
 
 

@@ -81,6 +81,26 @@ def test_advice_names_states(folder: Path) -> None:
     assert tool("roman-advice", *words, "--from", "advice").stdout.splitlines() == table
 
 
+ONES = b"".join(b"value 1 %d 1\n" % pair for pair in range(1000))
+"""The costs of one request from each pair."""
+
+
+@pytest.mark.parametrize(
+    "advice, said",
+    [
+        (b"worst 3\nvalue 9 0 4\n" + ONES, "roman-advice: there is no line `value 8 "),
+        (b"\xff", ""),
+        (b"worst " + b"9" * 5000, ""),
+    ],
+)
+def test_a_file_that_is_no_advice(folder: Path, advice: bytes, said: str) -> None:
+    words = (str(TOP / "samples" / "depot.json"), str(TOP / "samples" / "depot.costs"), "3")
+    Path("advice").write_bytes(advice)
+    done = tool("roman-advice", *words, "--from", "advice")
+    assert done.stderr.startswith(said) and "Traceback" not in done.stderr
+    assert done.returncode == (5 if said else 0)
+
+
 def test_advice_on_a_short_document_takes_the_cheap_arm() -> None:
     done = tool("roman-advice", str(SHORT / "cell.json"), str(SHORT / "cell.costs"), "8")
     picks = [line.split()[-2] for line in done.stdout.splitlines() if " pick " in line]
