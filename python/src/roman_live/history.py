@@ -14,9 +14,13 @@ from typing import Any
 from roman_client.store import open_read_only
 
 from .config import HomeFile, HomeFileError
+from .limits import one_line
 
 LONGEST_PAGE = 100
 """The most entries on a page."""
+
+LONGEST_LINE = 2000
+"""The most letters of an entry in words."""
 
 LAST = 2**63 - 1
 """The greatest number of a call or a change."""
@@ -110,12 +114,12 @@ def text_of(entry: dict[str, Any]) -> str:
     source = f" (by {entry['source']})" if entry["source"] else ""
     if entry["kind"] == "change":
         cause = f", {entry['cause']}" if entry["cause"] else ""
-        return f"{entry['words']}{cause}{source}"
+        return one_line(f"{entry['words']}{cause}{source}", LONGEST_LINE)
     result = entry["result"] or "under way"
     where = f", and is {entry['state']}" if entry["state"] else ""
     error = f": {entry['error']}" if entry["error"] else ""
     reason = f"; {entry['reason']}" if entry["reason"] else ""
-    return f"{entry['service']} {entry['action']}: {result}{where}{error}{reason}{source}"
+    return one_line(f"{entry['service']} {entry['action']}: {result}{where}{error}{reason}{source}", LONGEST_LINE)
 
 
 def _utc(seconds: float) -> str:

@@ -4,7 +4,9 @@ from __future__ import annotations
 
 import asyncio
 import contextlib
+import os
 import shutil
+import signal
 import sys
 from pathlib import Path
 
@@ -37,6 +39,7 @@ async def _draw(document: Path) -> bytes | None:
         *tool,
         document.name,
         cwd=document.parent,
+        start_new_session=True,
         stdin=asyncio.subprocess.DEVNULL,
         stdout=asyncio.subprocess.PIPE,
         stderr=asyncio.subprocess.DEVNULL,
@@ -47,8 +50,8 @@ async def _draw(document: Path) -> bytes | None:
     except TimeoutError:
         return None
     finally:
-        with contextlib.suppress(ProcessLookupError):
-            process.kill()
+        with contextlib.suppress(ProcessLookupError):  # Graphviz is in its group.
+            os.killpg(process.pid, signal.SIGKILL)
     return output if process.returncode == 0 else None
 
 

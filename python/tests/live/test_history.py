@@ -42,6 +42,18 @@ def shown(playhouse: Playhouse, capsys: pytest.CaptureFixture[str], *words: str)
     return capsys.readouterr().out.splitlines()
 
 
+def test_an_entry_is_one_line(playhouse: Playhouse, capsys: pytest.CaptureFixture[str]) -> None:
+    """Whatever the name of the one who asked is."""
+
+    async def live() -> None:
+        async with playhouse.home() as home:
+            await home.fleet.thaw("kettle", "me\n2026-01-01 kettle boil: served\x1b[2J")
+
+    asyncio.run(live())
+    text = r"  thaw kettle (by me\n2026-01-01 kettle boil: served\x1b[2J)"
+    assert any(line.endswith(text) for line in shown(playhouse, capsys))
+
+
 def test_for_people(playhouse: Playhouse, capsys: pytest.CaptureFixture[str]) -> None:
     texts = [line.partition("  ")[2] for line in shown(playhouse, capsys)]
     assert texts == [

@@ -316,6 +316,20 @@ async def test_a_document_is_drawn_once(tmp_path: Path, status: int) -> None:
         assert len((tmp_path / "runs").read_text(encoding="ascii").splitlines()) == 2
 
 
+async def test_a_drawing_that_is_given_up_leaves_nothing_running(tmp_path: Path) -> None:
+    """Also not what the drawing had started."""
+    document, child = tmp_path / "home.json", tmp_path / "child"
+    document.touch()
+    tool = ("sh", "-c", f"sleep 1000 & echo $! > {child}; wait")
+    with mock.patch.object(pictures, "_tool", lambda: tool), mock.patch.object(pictures, "LONGEST_DRAWING", 1.0):
+        assert await Picture(document).get() is None
+    with contextlib.suppress(FileNotFoundError, ProcessLookupError, ValueError):  # It has ended, or never began.
+        stat = Path(f"/proc/{int(child.read_text(encoding='ascii'))}/stat")
+        async with asyncio.timeout(PATIENCE):
+            while stat.read_text(encoding="ascii").split()[2] != "Z":
+                await asyncio.sleep(0.01)
+
+
 def changes(home: Home) -> list[str]:
     """The events of changes."""
     return [each.text for each in home.events.after("") if each.kind == "changed"]
