@@ -4,7 +4,6 @@ from __future__ import annotations
 
 import array
 import asyncio
-import contextlib
 import fcntl
 import functools
 import json
@@ -17,6 +16,7 @@ from typing import Any
 
 import paho.mqtt.client as mqtt  # type: ignore[import]
 
+from .background import happens
 from .config import Broker
 from .limits import LONGEST_BODY
 
@@ -159,7 +159,7 @@ class Connection:
 
     async def agreed(self) -> None:
         """Waits up to FIRST_WAIT until the broker has confirmed all subscriptions. Earlier messages are lost."""
-        await _wait(self._agreed, FIRST_WAIT)
+        await happens(self._agreed, FIRST_WAIT)
 
     def publish(self, topic: str, value: Any) -> None:
         """Publishes JSON, as soon as there is a connection."""
@@ -184,7 +184,7 @@ class Connection:
     async def open(self, patience: float | None = None) -> None:
         """Connects. Returns after `patience` seconds, by default FIRST_WAIT, if the broker isn't there by then."""
         self._task = asyncio.create_task(self._stay_connected())
-        if not await _wait(self._first, FIRST_WAIT if patience is None else patience) and self._why is None:
+        if not await happens(self._first, FIRST_WAIT if patience is None else patience) and self._why is None:
             self._changed(False, self._unreached())
 
     async def close(self) -> None:
@@ -197,7 +197,7 @@ class Connection:
         self.connected = False  # So that the end isn't reported as a loss.
         if self._socket is not None:
             self._client.disconnect()
-            await _wait(self._lost, FIRST_WAIT)
+            await happens(self._lost, FIRST_WAIT)
         if self._task is not None:
             self._task.cancel()
             await asyncio.wait([self._task])
@@ -208,12 +208,12 @@ class Connection:
             self._lost.clear()
             try:
                 await asyncio.to_thread(self._client.reconnect)
-            except (OSError, UnicodeError) as error:  # A host that is no name gives a UnicodeError.
+            except Exception as error:  # A host that is no name gives a UnicodeError, for example.
                 self._fail(error)
             else:
                 self._watch()
-                while not await _wait(self._lost, 1.0):
-                    self._client.loop_misc()
+                while not await happens(self._lost, 1.0):
+                    self._run(self._client.loop_misc)
             await asyncio.sleep(self._pause)
             self._pause = min(2 * self._pause, LONGEST_PAUSE)
 
@@ -244,11 +244,12 @@ class Connection:
         self._run(self._client.loop_write)
 
     def _run(self, step: Callable[[], Any]) -> None:
-        """Lets the client read or write. An error, such as one of TLS, ends the connection."""
+        """Lets the client read, write or look at the time. An error, such as one of TLS, ends the connection."""
         try:
             step()
         except Exception as error:
-            self._unwatch()
+            if self._socket is not None:
+                self._unwatch()
             self._end()
             self._fail(error)
 
@@ -389,11 +390,3 @@ def _is_too_long(message: Any) -> bool:
         return False
     LOG.warning("a message on %s is ignored: it has more than %d bytes", message.topic, LONGEST_BODY)
     return True
-
-
-async def _wait(event: asyncio.Event, seconds: float) -> bool:
-    """Waits for an event, and returns whether it came in that time."""
-    with contextlib.suppress(TimeoutError):
-        async with asyncio.timeout(seconds):
-            await event.wait()
-    return event.is_set()

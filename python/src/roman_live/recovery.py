@@ -3,10 +3,10 @@
 from __future__ import annotations
 
 import asyncio
-import contextlib
 from collections.abc import Awaitable, Callable
 from datetime import datetime, timedelta, timezone
 
+from .background import happens
 from .devices import Answer
 from .errors import error_text
 from .registry import Registry
@@ -16,12 +16,6 @@ FIRST_PAUSE = 1.0
 
 LONGEST_PAUSE = 60.0
 """The longest such pause."""
-
-
-async def pause_until(wake: asyncio.Event, seconds: float | None) -> None:
-    """Waits until the event is set, for at most so many seconds. None means without end."""
-    with contextlib.suppress(asyncio.TimeoutError):
-        await asyncio.wait_for(wake.wait(), seconds)
 
 
 class Retries:
@@ -101,17 +95,16 @@ class Retries:
                 due = datetime.now(timezone.utc) + timedelta(seconds=pause)
                 known.next_try = due.isoformat(timespec="milliseconds")
             self._changed()
-            await pause_until(wake, pause)
+            await happens(wake, pause)
             wake.clear()
             known.next_try = None
             try:
                 answer = await self._told(service)
-            except Exception as error:
-                known.last_error = error_text(error)
-            else:
                 if answer is None:
                     pause = None  # It can't report its state, so a person decides when it is back.
                     continue
                 if await self._back(service, answer):
                     return
+            except Exception as error:
+                known.last_error = error_text(error)
             pause = min(LONGEST_PAUSE, 2 * (pause or FIRST_PAUSE))

@@ -10,6 +10,7 @@ import sys
 
 from systemd import daemon  # type: ignore[import]
 
+from .background import happens
 from .log import OnceAMinute
 
 PRIORITIES = {logging.WARNING: 4, logging.ERROR: 3, logging.CRITICAL: 2}
@@ -88,8 +89,5 @@ class Supervisor:
 
     async def watch(self, ending: asyncio.Event) -> None:
         """Waits for the end, and reports regularly that the home is alive."""
-        while not ending.is_set():
-            try:
-                await asyncio.wait_for(ending.wait(), self._period)
-            except asyncio.TimeoutError:
-                daemon.notify("WATCHDOG=1")
+        while not await happens(ending, self._period):
+            daemon.notify("WATCHDOG=1")

@@ -99,6 +99,24 @@ async def test_it_is_said_once_that_it_refuses(at_end: AsyncExitStack, tmp_path:
     assert len(said) == len(set(said))
 
 
+@pytest.mark.parametrize("step", ["reconnect", "loop_misc", "loop_read"])
+async def test_an_unexpected_error_ends_no_connecting(at_end: AsyncExitStack, tmp_path: Path, step: str) -> None:
+    broker = Mosquitto(tmp_path)
+    at_end.callback(broker.stop)
+    said: list[tuple[bool, str]] = []
+    connection = Connection(Broker(port=broker.port), lambda connected, text: said.append((connected, text)))
+    at_end.push_async_callback(connection.close)
+    with mock.patch.object(connection._client, step, side_effect=RuntimeError("odd")):
+        await connection.open(0.0)
+        async with asyncio.timeout(PATIENCE):
+            while not said or not said[-1][1].endswith("can't be reached: odd"):
+                await asyncio.sleep(0.01)
+    async with asyncio.timeout(PATIENCE):
+        while not connection.connected:
+            await asyncio.sleep(0.01)
+    assert said[-1] == (True, "the broker is there")
+
+
 class Encrypted:
     """A broker that wants to see a certificate, and shows one."""
 

@@ -421,14 +421,15 @@ async def test_mistakes_stand_where_they_were_written(homes: InProcess) -> None:
 async def test_pauses_grow_and_end_when_it_is_back(homes: InProcess) -> None:
     pauses: list[float | None] = []
 
-    async def quick(wake: asyncio.Event, seconds: float | None) -> None:
+    async def quick(wake: asyncio.Event, seconds: float | None) -> bool:
         pauses.append(seconds)
         await asyncio.sleep(0)
+        return wake.is_set()
 
     home = await homes.begin("home")
     homes.states["window"] = "shut"
     homes.broken.add("window")
-    with mock.patch.object(recovery, "pause_until", quick):
+    with mock.patch.object(recovery, "happens", quick):
         done = await home.requests.serve("brighten")
         assert done["failures"] == [{"service": "window", "error": "broken"}]
         await homes.until(lambda: len(pauses) >= 9)
@@ -643,6 +644,20 @@ async def test_the_state_is_told_when_it_is_there_again(away: Away, caplog: pyte
     while (message := await asyncio.wait_for(listener.get(), 60)) is not None:
         if message.name == "state" and message.value["target"]["state"] == "boiled":
             break
+
+
+async def test_an_unexpected_error_ends_no_recovery(homes: InProcess) -> None:
+    home = await homes.begin("home")
+    homes.states["window"] = "shut"
+    homes.broken.add("window")
+    await home.requests.serve("brighten")
+    homes.broken.clear()
+    with mock.patch.object(home.fleet, "_check_place", side_effect=[KeyError("lost"), None]) as checked:
+        async with asyncio.timeout(60):
+            while home.registry["window"].frozen:
+                home.fleet.retries.hurry("window")
+                await asyncio.sleep(0.01)
+    assert checked.call_count == 2
 
 
 async def test_an_unexpected_error_ends_no_publishing(homes: InProcess, caplog: pytest.LogCaptureFixture) -> None:
