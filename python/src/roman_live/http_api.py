@@ -4,6 +4,7 @@ from __future__ import annotations
 
 import asyncio
 import base64
+import functools
 import hashlib
 import html
 import json
@@ -59,7 +60,12 @@ MOST_UNREAD = 16_384
 HEARTBEAT = 15.0
 """The seconds without a message after which a listener is sent a comment, so that a lost connection is noticed."""
 
-Handler = Callable[[web.Request], Awaitable[web.StreamResponse]]
+JSON_HEADERS = {"Content-Type": "application/json; charset=utf-8", "Cache-Control": "no-store"}
+
+HOSTS = 64
+"""How many names of this machine are remembered that clients have called."""
+
+Handler = Callable[[web.BaseRequest], Awaitable[web.StreamResponse]]
 
 
 class Server:
@@ -73,36 +79,29 @@ class Server:
         self._access = Access(page.token, page.watch_token)
         self._picture = Picture(home.file.document)
         self._reading = asyncio.Lock()
-        self._runner: web.AppRunner | None = None
+        self._server: web.Server | None = None
         self._gate: Gate | None = None
         self._listening: asyncio.AbstractServer | None = None
+        self._routes: dict[tuple[str, str], Handler] = {
+            ("POST", "/requests"): self._post_request,
+            ("GET", "/"): self._get_page,
+            ("GET", "/picture.svg"): self._get_picture,
+            ("GET", "/state"): self._get_state,
+            ("GET", "/remedies"): self._get_remedies,
+            ("GET", "/events"): self._get_events,
+            ("GET", "/history"): self._get_history,
+            ("GET", "/metrics"): self._get_metrics,
+            ("POST", "/login"): self._post_login,
+            ("POST", "/join"): self._post_join,
+            ("POST", "/environment/jump"): self._post_environment,
+            ("POST", "/record"): self._post_record,
+            ("POST", "/outcome"): self._post_outcome,
+        }
 
     async def begin(self) -> None:
         """Listens at the address of the page. Raises NoPage if it can't."""
-        app = web.Application(client_max_size=LONGEST_BODY, middlewares=[self._guard])
-        app.add_routes(
-            [
-                web.post("/requests", self._post_request),  # The first is found soonest.
-                web.get("/", self._get_page),
-                web.get("/picture.svg", self._get_picture),
-                web.get("/state", self._get_state),
-                web.get("/remedies", self._get_remedies),
-                web.get("/events", self._get_events),
-                web.get("/history", self._get_history),
-                web.get("/metrics", self._get_metrics),
-                web.post("/login", self._post_login),
-                web.delete("/requests/{key}", self._delete_request),
-                web.post("/services/{service}/{change:freeze|thaw|die|jump}", self._post_change),
-                web.post("/join", self._post_join),
-                web.post("/environment/jump", self._post_environment),
-                web.post("/record", self._post_record),
-                web.post("/outcome", self._post_outcome),
-            ]
-        )
-        self._runner = web.AppRunner(app, access_log=None)
-        await self._runner.setup()
-        assert self._runner.server is not None
-        self._gate = Gate(self._runner.server, self._limits)
+        self._server = web.Server(self._serve, access_log=None)
+        self._gate = Gate(self._server, self._limits)
         loop = asyncio.get_running_loop()
         try:
             self._listening = await loop.create_server(self._gate, self.page.host, self.page.port)
@@ -118,31 +117,44 @@ class Server:
         self.home.events.dismiss()
         if self._listening is not None:
             self._listening.close()
-        if self._runner is not None and self._runner.server is not None:
-            await self._runner.server.shutdown(2.0)
-            await self._runner.cleanup()
+        if self._server is not None:
+            await self._server.shutdown(2.0)
+
+    def _handler(self, request: web.BaseRequest) -> Handler:
+        """The handler of a request. Raises HTTPNotFound, or HTTPMethodNotAllowed."""
+        method, path = "GET" if request.method == "HEAD" else request.method, request.path
+        handler = self._routes.get((method, path))
+        if handler is not None:
+            return handler
+        match (method, *request.rel_url.parts):
+            case ("DELETE", "/", "requests", key) if key:
+                return functools.partial(self._delete_request, key)
+            case ("POST", "/", "services", service, ("freeze" | "thaw" | "die" | "jump") as change) if service:
+                return functools.partial(self._post_change, service, change)
+        allowed = {known for known, place in self._routes if place == path}
+        raise web.HTTPMethodNotAllowed(method, allowed) if allowed else web.HTTPNotFound()
 
     # Access.
 
-    @web.middleware
-    async def _guard(self, request: web.Request, handler: Handler) -> web.StreamResponse:
-        """Allows requests with a valid token, or from the page itself."""
+    async def _serve(self, request: web.BaseRequest) -> web.StreamResponse:
+        """Serves a request. Its connection keeps its place meanwhile."""
         assert self._gate is not None
         if request.method != "POST":  # The body of others follows.
             self._gate.begun(request.protocol)
         try:
-            return await self._answered(request, handler)
+            return await self._answered(request)
         finally:
             self._gate.ended(request.protocol)
 
-    async def _answered(self, request: web.Request, handler: Handler) -> web.StreamResponse:
-        """The answer of a handler, or of what refuses the request."""
+    async def _answered(self, request: web.BaseRequest) -> web.StreamResponse:
+        """The answer of a handler, or of what refuses the request. Requests with a valid token are allowed, and those
+        from the page itself."""
         try:
             self._check_host(request)
             entered = None if request.path == "/login" else self._enter(request)
             self._check_origin(request)
             # A response without members is false, so that `or` won't do.
-            response = await handler(request) if entered is None else entered
+            response = await self._handler(request)(request) if entered is None else entered
         except web.HTTPException as error:
             if error.status == HTTPStatus.REQUEST_ENTITY_TOO_LARGE:
                 error.text = f"a body has at most {LONGEST_BODY} bytes"
@@ -159,25 +171,20 @@ class Server:
             response.headers.setdefault("Referrer-Policy", "no-referrer")
         return response
 
-    def _refused(self, request: web.Request, error: web.HTTPException) -> web.Response:
+    def _refused(self, request: web.BaseRequest, error: web.HTTPException) -> web.Response:
         """What refuses a request: to people who have shown no token, the page for it."""
         why = error.text or error.reason
         if error.status in (HTTPStatus.UNAUTHORIZED, HTTPStatus.TOO_MANY_REQUESTS) and _is_for_people(request):
             return _login("" if request.method == "GET" and "token" not in request.query else f"{why}.", error.status)
         return _json({"error": why}, error.status)
 
-    def _check_host(self, request: web.Request) -> None:
+    def _check_host(self, request: web.BaseRequest) -> None:
         """Without a token only names of this machine are taken, so that no other page can use one of its
         own that leads here."""
-        if self._access.is_open:
-            try:
-                host = urlsplit(f"//{request.headers.get('Host', '')}").hostname
-            except ValueError:
-                host = None
-            if host is None or not (is_loopback(host) or host == self.page.host):
-                raise web.HTTPForbidden(text="another name than that of this machine was called")
+        if self._access.is_open and not _is_own(request.headers.get("Host", ""), self.page.host):
+            raise web.HTTPForbidden(text="another name than that of this machine was called")
 
-    def _enter(self, request: web.Request) -> web.Response | None:
+    def _enter(self, request: web.BaseRequest) -> web.Response | None:
         """Checks the token, and the role that it gives. One who shows it in the address of the page is let in, and has
         it in a cookie from then on."""
         if self._access.is_open:
@@ -198,7 +205,7 @@ class Server:
             return None
         raise web.HTTPUnauthorized(text="the token is missing, or another one")
 
-    def _check_origin(self, request: web.Request) -> None:
+    def _check_origin(self, request: web.BaseRequest) -> None:
         """Raises HTTPForbidden for what another page sends, or loads; it may lead to this home's page."""
         origin = request.headers.get("Origin")
         site = request.headers.get("Sec-Fetch-Site", "none")
@@ -213,27 +220,27 @@ class Server:
 
     # Reading.
 
-    async def _get_page(self, request: web.Request) -> web.Response:
+    async def _get_page(self, request: web.BaseRequest) -> web.Response:
         text = PAGE.read_text(encoding="utf-8")
         if request.get("role") is Role.WATCH:
             text = text.replace("<body>", '<body class="watch">')
         headers = {"Content-Security-Policy": _policy_of(text, self.page.frame_ancestors)}
         return web.Response(text=text, content_type="text/html", headers=headers)
 
-    async def _get_picture(self, request: web.Request) -> web.Response:
+    async def _get_picture(self, request: web.BaseRequest) -> web.Response:
         drawn = await self._picture.get()
         if drawn is None:
             raise web.HTTPNotFound(text="there is no picture: roman-draw and graphviz make it")
         headers = {"Content-Security-Policy": "default-src 'none'; style-src 'unsafe-inline'"}
         return web.Response(body=drawn, content_type="image/svg+xml", headers=headers)
 
-    async def _get_state(self, request: web.Request) -> web.Response:
+    async def _get_state(self, request: web.BaseRequest) -> web.Response:
         return await self._state()
 
-    async def _get_remedies(self, request: web.Request) -> web.Response:
+    async def _get_remedies(self, request: web.BaseRequest) -> web.Response:
         return _json(await self.home.view.remedies())
 
-    async def _get_history(self, request: web.Request) -> web.Response:
+    async def _get_history(self, request: web.BaseRequest) -> web.Response:
         """A page of the history. Only one is read at a time, in a thread."""
         service = request.query.get("service")
         async with self._reading:
@@ -243,11 +250,11 @@ class Server:
                 raise web.HTTPBadRequest(text=str(error)) from None
         return _json(shown)
 
-    async def _get_metrics(self, request: web.Request) -> web.Response:
+    async def _get_metrics(self, request: web.BaseRequest) -> web.Response:
         text = await self.home.view.figures()
         return web.Response(body=text, headers={"Content-Type": "text/plain; version=0.0.4"})
 
-    async def _get_events(self, request: web.Request) -> web.StreamResponse:
+    async def _get_events(self, request: web.BaseRequest) -> web.StreamResponse:
         """Sends the missed events, the state, and all further events and states."""
         last = request.headers.get("Last-Event-ID", "")
         if len(last) > LONGEST_MARK:
@@ -271,7 +278,7 @@ class Server:
         return response
 
     async def _send_events(
-        self, request: web.Request, response: web.StreamResponse, listener: Listener, last: str
+        self, request: web.BaseRequest, response: web.StreamResponse, listener: Listener, last: str
     ) -> None:
         """Sends events to a listener until it is removed. Raises TimeoutError if it doesn't read them."""
         messages: list[Message | None] = [self.home.events.message(each) for each in self.home.events.after(last)]
@@ -288,7 +295,7 @@ class Server:
 
     # Changing.
 
-    async def _post_login(self, request: web.Request) -> web.Response:
+    async def _post_login(self, request: web.BaseRequest) -> web.Response:
         """Takes the token of the page for it, and leads to the home's page."""
         data = await self._read(request)
         token = parse_qs(data.decode(errors="replace")).get("token", [""])[0].strip()
@@ -296,7 +303,7 @@ class Server:
             raise web.HTTPUnauthorized(text="this isn't the token")
         return _let_in(token)
 
-    async def _post_request(self, request: web.Request) -> web.Response:
+    async def _post_request(self, request: web.BaseRequest) -> web.Response:
         body = await self._body(request)
         action, key, wait = _text(body, "action"), _optional_text(body, "key"), _flag(body, "wait", True)
         channel = "the page" if request.headers.get("Sec-Fetch-Site") == "same-origin" else "a client over HTTP"
@@ -304,42 +311,42 @@ class Server:
         expires = expiry(body.get("expires"))
         if expires is None:
             raise web.HTTPBadRequest(text=NO_EXPIRY)
-        status, value = await result(self.home, action, key, wait, expires=expires, source=_source(request))
+        serving = self.home.requests.serve_here(action, key, wait, expires=expires, source=_source(request))
+        status, value = await _result(self.home, serving)
         return _json(value, status)
 
-    async def _delete_request(self, request: web.Request) -> web.Response:
+    async def _delete_request(self, key: str, request: web.BaseRequest) -> web.Response:
         """Cancels the waiting requests with a key."""
-        cancelled = self.home.requests.cancel(request.match_info["key"])
+        cancelled = self.home.requests.cancel(key)
         if not cancelled:
             return _json({"error": "no request with this key waits"}, HTTPStatus.NOT_FOUND)
         return _json({"cancelled": cancelled})
 
-    async def _post_change(self, request: web.Request) -> web.Response:
+    async def _post_change(self, service: str, change: str, request: web.BaseRequest) -> web.Response:
         body = await self._body(request)
-        service, change = request.match_info["service"], request.match_info["change"]
         source = _source(request)
         if change == "jump":
             return await self._changed(self.home.fleet.jump(service, _text(body, "state"), source))
         changes = {"freeze": self.home.fleet.freeze, "thaw": self.home.fleet.thaw, "die": self.home.fleet.die}
         return await self._changed(changes[change](service, source))
 
-    async def _post_join(self, request: web.Request) -> web.Response:
+    async def _post_join(self, request: web.BaseRequest) -> web.Response:
         body = await self._body(request)
         service, behaviour = _text(body, "service"), _text(body, "behaviour")
         state, loose = _text(body, "state"), _flag(body, "loose", False)
         return await self._changed(self.home.fleet.join(service, behaviour, state, loose, _source(request)))
 
-    async def _post_environment(self, request: web.Request) -> web.Response:
+    async def _post_environment(self, request: web.BaseRequest) -> web.Response:
         body = await self._body(request)
         return await self._changed(self.home.fleet.jump_environment(_text(body, "state"), _source(request)))
 
-    async def _post_record(self, request: web.Request) -> web.Response:
+    async def _post_record(self, request: web.BaseRequest) -> web.Response:
         body = await self._body(request)
         action, service, key = _text(body, "action"), _text(body, "service"), _optional_text(body, "key")
         outcome = _text(body, "state"), _text(body, "environment")
         return await self._changed(self.home.requests.record(action, service, outcome, key, _source(request)))
 
-    async def _post_outcome(self, request: web.Request) -> web.Response:
+    async def _post_outcome(self, request: web.BaseRequest) -> web.Response:
         body = await self._body(request)
         service = _text(body, "service")
         outcome = None
@@ -351,17 +358,19 @@ class Server:
             return _json({"error": str(error.args[0])}, HTTPStatus.CONFLICT)
         return await self._state()
 
-    async def _body(self, request: web.Request) -> Mapping[str, Any]:
+    async def _body(self, request: web.BaseRequest) -> Mapping[str, Any]:
         """The object in a body; an empty one if there is no body."""
         # The library's own `content_type` takes longer than all else here.
         kind = request.headers.get("Content-Type", "").partition(";")[0].strip().lower()
         return _object(await self._read(request), kind)
 
-    async def _read(self, request: web.Request) -> bytes:
+    async def _read(self, request: web.BaseRequest) -> bytes:
         """The body of a request. Its connection keeps its place from then on."""
         if (request.content_length or 0) > LONGEST_BODY:
             raise web.HTTPRequestEntityTooLarge(LONGEST_BODY, request.content_length or 0)
         data = await request.read()
+        if len(data) > LONGEST_BODY:  # One without a length.
+            raise web.HTTPRequestEntityTooLarge(LONGEST_BODY, len(data))
         assert self._gate is not None
         self._gate.begun(request.protocol)
         return data
@@ -387,7 +396,7 @@ class Server:
         return _json(await self.home.view.state())
 
 
-def _unread(request: web.Request) -> int:
+def _unread(request: web.BaseRequest) -> int:
     """How many bytes wait to be sent on the connection of a request."""
     return 0 if request.transport is None else request.transport.get_write_buffer_size()
 
@@ -400,7 +409,7 @@ def expiry(value: Any) -> float | None:
     return float(value) if known else None
 
 
-def _source(request: web.Request) -> str:
+def _source(request: web.BaseRequest) -> str:
     """The source of a request, for the history."""
     return f"http {request.remote}"
 
@@ -409,8 +418,13 @@ async def result(
     home: Home, action: str, key: str | None, wait: bool, *, expires: float = PATIENCE, source: str | None = None
 ) -> tuple[HTTPStatus, dict[str, Any]]:
     """Serves an action, and returns the status and the JSON of the result."""
+    return await _result(home, home.requests.serve(action, key, wait, expires=expires, source=source))
+
+
+async def _result(home: Home, serving: Coroutine[Any, Any, dict[str, Any]]) -> tuple[HTTPStatus, dict[str, Any]]:
+    """The status and the JSON of the result of a request."""
     try:
-        return HTTPStatus.OK, await home.requests.serve(action, key, wait, expires=expires, source=source)
+        return HTTPStatus.OK, await serving
     except UnknownAction as error:
         return HTTPStatus.NOT_FOUND, {"error": str(error), "actions": list(home.document.actions)}
     except Busy:
@@ -462,13 +476,23 @@ def _login(why: str, status: int) -> web.Response:
     return web.Response(text=text, status=status, content_type="text/html", headers=headers)
 
 
-def _is_for_people(request: web.Request) -> bool:
+def _is_for_people(request: web.BaseRequest) -> bool:
     """Whether a browser shows the answer as a page."""
     return request.path in ("/", "/login") and "text/html" in request.headers.get("Accept", "")
 
 
 def _json(value: Any, status: int = HTTPStatus.OK) -> web.Response:
-    return web.json_response(value, status=status)
+    return web.Response(body=json.dumps(value).encode(), status=status, headers=JSON_HEADERS)
+
+
+@functools.lru_cache(HOSTS)
+def _is_own(called: str, own: str) -> bool:
+    """Whether a Host header names this machine, or the host of the page."""
+    try:
+        host = urlsplit(f"//{called}").hostname
+    except ValueError:
+        return False
+    return host is not None and (is_loopback(host) or host == own)
 
 
 def _object(data: bytes, kind: str) -> Mapping[str, Any]:

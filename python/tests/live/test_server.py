@@ -1,5 +1,7 @@
 """The HTTP API: who may, what it refuses, its events and figures, and a full disk."""
 
+import contextlib
+import http.client
 import json
 import re
 import resource
@@ -183,6 +185,40 @@ def test_bodies(home: Api) -> None:
     form = {"Content-Type": "application/x-www-form-urlencoded"}
     assert call(url, b"action=brighten", form)[0] == 415
     assert home.live.state()["counts"]["served"] == 0
+
+
+def test_a_body_without_its_length(home: Api) -> None:
+    def status(pieces: int) -> int:
+        with contextlib.closing(http.client.HTTPConnection("127.0.0.1", home.live.port, timeout=PATIENCE)) as client:
+            body = [b'{"action": "brighten"', *[b" " * 4096] * pieces, b"}"]
+            client.request("POST", "/requests", iter(body), {"Content-Type": "application/json"}, encode_chunked=True)
+            return client.getresponse().status
+
+    assert (status(16), status(15)) == (413, 200)
+
+
+def test_what_is_not_there(home: Api) -> None:
+    def answer(method: str, path: str) -> tuple[int, str]:
+        with contextlib.closing(http.client.HTTPConnection("127.0.0.1", home.live.port, timeout=PATIENCE)) as client:
+            client.request(method, path)
+            response = client.getresponse()
+            return response.status, response.read().decode()
+
+    assert answer("HEAD", "/state") == (200, "")
+    for method, path in (
+        ("GET", "/nowhere"),
+        ("POST", "/services/window/dance"),
+        ("POST", "/services//freeze"),
+        ("POST", "/services/window"),
+        ("GET", "/services/window/freeze"),
+        ("DELETE", "/requests/"),
+        ("DELETE", "/requests/a/b"),
+    ):
+        assert answer(method, path) == (404, '{"error": "404: Not Found"}')
+    for method, path in (("GET", "/requests"), ("POST", "/state"), ("PUT", "/"), ("DELETE", "/events")):
+        assert answer(method, path) == (405, '{"error": "405: Method Not Allowed"}')
+    assert answer("DELETE", "/requests/a%2Fb") == (404, '{"error": "no request with this key waits"}')
+    assert answer("GET", "/st%61te")[0] == 200
 
 
 def test_foreign_pages(home: Api) -> None:
