@@ -24,8 +24,9 @@ class Gate:
         self.limits = limits
         self._make = make
         self._open: dict[asyncio.BaseProtocol, Connection] = {}
-        self._new: dict[Connection, None] = {}
-        self._silent: dict[Connection, None] = {}
+        self._new: dict[Connection, float] = {}
+        self._silent: dict[Connection, float] = {}
+        self._timer: asyncio.TimerHandle | None = None
 
     def __call__(self) -> asyncio.Protocol:
         return Connection(self, self._make())
@@ -35,15 +36,15 @@ class Gate:
         connection = self._open.get(protocol)
         if connection is not None:
             self._forget(connection)
-            connection.serve()
+            connection.read = 0
 
     def ended(self, protocol: asyncio.BaseProtocol) -> None:
         """A request was answered. The connection is silent until its next one."""
         connection = self._open.get(protocol)
         if connection is not None:
             self._forget(connection)
-            self._silent[connection] = None
-            connection.wait()
+            connection.read = 0
+            self._expect(connection, self._silent)
 
     def enter(self, connection: Connection) -> bool:
         """Registers a new connection. False if requests occupy all places."""
@@ -56,7 +57,7 @@ class Gate:
             oldest.end()
             self.leave(oldest)
         self._open[connection.inner] = connection
-        self._new[connection] = None
+        self._expect(connection, self._new)
         return True
 
     def leave(self, connection: Connection) -> None:
@@ -68,27 +69,37 @@ class Gate:
         self._new.pop(connection, None)
         self._silent.pop(connection, None)
 
+    def _expect(self, connection: Connection, waiting: dict[Connection, float]) -> None:
+        """Expects a whole request of a connection in time."""
+        loop = asyncio.get_running_loop()
+        waiting[connection] = loop.time() + self.limits.silence
+        if self._timer is None:
+            self._timer = loop.call_at(waiting[connection], self._end_silent)
+
+    def _end_silent(self) -> None:
+        """Closes the connections whose time is over. The next one that may be too late sets the timer again."""
+        self._timer = None
+        loop = asyncio.get_running_loop()
+        for waiting in (self._new, self._silent):
+            for connection, until in list(waiting.items()):
+                if until > loop.time():
+                    break
+                self._forget(connection)
+                connection.end()
+        ends = [until for waiting in (self._new, self._silent) for until in list(waiting.values())[:1]]
+        if ends:
+            self._timer = loop.call_at(min(ends), self._end_silent)
+
 
 class Connection(asyncio.Protocol):
     """A connection. It passes everything to the protocol `inner`, and ends if it is silent for too long."""
 
     def __init__(self, gate: Gate, inner: asyncio.Protocol) -> None:
         self.inner = inner
+        self.read = 0
+        """How many bytes of its present request were read."""
         self._gate = gate
         self._transport: asyncio.Transport | None = None
-        self._timer: asyncio.TimerHandle | None = None
-        self._read = 0
-
-    def serve(self) -> None:
-        """Marks its request as being served, so that it isn't closed."""
-        self._read = 0
-        if self._timer is not None:
-            self._timer.cancel()
-
-    def wait(self) -> None:
-        """Expects a whole request in time."""
-        self.serve()
-        self._timer = asyncio.get_running_loop().call_later(self._gate.limits.silence, self.end)
 
     def end(self) -> None:
         """Closes the connection at once."""
@@ -102,18 +113,16 @@ class Connection(asyncio.Protocol):
             return
         self._transport = transport
         self.inner.connection_made(transport)
-        self.wait()
 
     def connection_lost(self, exc: Exception | None) -> None:
         if self._transport is None:
             return
-        self.serve()
         self._gate.leave(self)
         self.inner.connection_lost(exc)
 
     def data_received(self, data: bytes) -> None:
-        self._read += len(data)
-        if self._read > LONGEST_HEAD:
+        self.read += len(data)
+        if self.read > LONGEST_HEAD:
             self.end()
         else:
             self.inner.data_received(data)
