@@ -10,7 +10,7 @@ import contextlib
 import logging
 from collections import deque
 from collections.abc import Callable, Mapping
-from dataclasses import dataclass, replace
+from dataclasses import dataclass
 from typing import Any, Generic, NamedTuple, Protocol, TypeVar
 
 from . import protocol, takeover
@@ -436,12 +436,9 @@ class Dispatching(Generic[DeviceKind]):
     def _served(self, call: Call, outcome: Outcome, move: Any) -> Done:
         """Moves the position by a request that was served."""
         state, environment = outcome
-        place = replace(self.position.places[call.service], state=state)
-        self.position = self.position.with_place(call.service, place)._replace(
-            target=move.target,
-            environment=move.environment,
-            served=self.position.served + 1,
-        )
+        before = self.position
+        places = {**before.places, call.service: before.places[call.service]._replace(state=state)}
+        self.position = Position(move.target, move.environment, places, before.served + 1, before.calls, before.changes)
         self.under_way, self._open = None, None
         failures, self._failures = tuple(self._failures), []
         return Done(call.request, call.service, state, move.target, move.environment, failures)
@@ -468,7 +465,7 @@ class Dispatching(Generic[DeviceKind]):
         with contextlib.suppress(AlreadyFrozen):
             yield from self._surely(protocol.freeze(service))
         place = self.position.places[service]
-        self.position = self.position.with_place(service, replace(place, frozen=cause))
+        self.position = self.position.with_place(service, place._replace(frozen=cause))
         self.under_way = None
 
     def _drop(self) -> Steps[None]:
@@ -632,7 +629,7 @@ class Dispatching(Generic[DeviceKind]):
                 yield from self.thaw(service, None if answer is True else answer)
                 LOG.info("%s is back", service)
             except NotFrozen:
-                place = replace(self.position.places[service], frozen=None)
+                place = self.position.places[service]._replace(frozen=None)
                 self.position = self.position.with_place(service, place)
             except (Refusal, TypeError, ValueError) as error:
                 LOG.warning("%s counts as not back: %r", service, error)

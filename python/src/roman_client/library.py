@@ -182,7 +182,7 @@ class InProcess:
         if length > len(self._room):
             self._room = ctypes.create_string_buffer(length)
             self._library.roman_reply(self._session, 0, self._room, length)
-        return ctypes.string_at(self._room, length).decode(errors="replace").split("\n")[:-1]
+        return str(memoryview(self._room)[:length], "utf-8", "replace").split("\n")[:-1]
 
     def _close(self, status: int) -> int:
         if self._ended is None:

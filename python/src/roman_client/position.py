@@ -4,7 +4,6 @@ from __future__ import annotations
 
 import enum
 from collections.abc import Mapping
-from dataclasses import dataclass, replace
 from types import MappingProxyType
 from typing import NamedTuple
 
@@ -21,8 +20,7 @@ class Frozen(enum.Enum):
     BEGINNING = "from the beginning"
 
 
-@dataclass(frozen=True)
-class Place:
+class Place(NamedTuple):
     """A service: its behaviour, its state, and why it is frozen, None if it isn't."""
 
     behaviour: str
@@ -80,5 +78,5 @@ class Position(NamedTuple):
             return position.with_place(service, Place(rest[1], rest[2], len(rest) == 4))
         place = self.places[service]
         if word == "jump":
-            return position.with_place(service, replace(place, state=rest[1]))
-        return position.with_place(service, replace(place, frozen=cause if word == "freeze" else None))
+            return position.with_place(service, place._replace(state=rest[1]))
+        return position.with_place(service, place._replace(frozen=cause if word == "freeze" else None))

@@ -35,7 +35,7 @@ RESERVE = 65_536
 """With fewer bytes left a session goes on in a new program between two requests."""
 
 REMEMBERED = 1024
-"""How many lines are remembered, so that they are made once."""
+"""How many lines of each kind are remembered, so that they are made once."""
 
 WORD = re.compile(r"[^\s\x00-\x1f]+")
 """A word of a line: letters without blanks and control characters."""
@@ -89,16 +89,19 @@ def _nothing(first: str, count: int) -> Callable[[Sequence[str]], None]:
     return value
 
 
+@lru_cache(REMEMBERED)
 def do(action: str) -> Event[Offer]:
     """Requests an action."""
     return Event(("do", action), lambda lines: Offer(action, tuple(_words("offer", None, lines)[1:])))
 
 
+@lru_cache(REMEMBERED)
 def use(service: str) -> Event[None]:
     """Delegates the request."""
     return Event(("use", service), _nothing("using", 2))
 
 
+@lru_cache(REMEMBERED)
 def saw(state: str, environment: str) -> Event[Move]:
     """Reports the outcome."""
     return Event(("saw", state, environment), lambda lines: Move(*_words("now", 3, lines)[1:]))

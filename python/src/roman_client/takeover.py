@@ -9,7 +9,7 @@ from __future__ import annotations
 import contextlib
 import json
 import logging
-from dataclasses import dataclass, replace
+from dataclasses import dataclass
 from pathlib import Path
 from typing import Any
 
@@ -165,7 +165,7 @@ class Replay:
             self._freeze(name, Frozen.BY_HAND)
 
     def _freeze(self, service: str, cause: Frozen) -> None:
-        place = replace(self.position.places[service], frozen=cause)
+        place = self.position.places[service]._replace(frozen=cause)
         self.position = self.position.with_place(service, place)
 
     def _play(self, event: Any) -> Steps[None]:
@@ -208,7 +208,7 @@ class Replay:
         except (BadLine, Impossible, UnknownName):
             yield from self._fail(call, Frozen.FAILED, f"answered {state} {environment}, which can't be")
             return
-        place = replace(self.position.places[call.service], state=state)
+        place = self.position.places[call.service]._replace(state=state)
         position = self.position.with_place(call.service, place)
         served = position.served + 1
         self.position = position._replace(target=move.target, environment=move.environment, served=served)

@@ -21,6 +21,7 @@ class HomeDispatcher(aio.Dispatcher):
     """The dispatcher of a home. While requests wait, each request needs one sync of the disk in place of two."""
 
     _timer: asyncio.TimerHandle | None = None
+    _until = 0.0
 
     async def serve(
         self, action: str, key: str | None, source: str | None, is_awaited: Callable[[], bool]
@@ -34,10 +35,8 @@ class HomeDispatcher(aio.Dispatcher):
         try:
             done = await self._in_turn(lambda: self.core.request(action, key, source, ahead))
         finally:
-            if self._timer is not None:
-                self._timer.cancel()
             if self.core.owes and is_awaited():
-                self._timer = asyncio.get_running_loop().call_later(LATEST, self._flush_later)
+                self._flush_at_latest()
             else:
                 self._flush_later()
         if not self.core.is_owed(done):
@@ -51,6 +50,22 @@ class HomeDispatcher(aio.Dispatcher):
         if self._begun:
             self._flush_later()
         await super().close()
+
+    def _flush_at_latest(self) -> None:
+        """Sets the time of the next write. One timer serves many requests: if it fires too early, it is set again."""
+        self._until = asyncio.get_running_loop().time() + LATEST
+        if self._timer is None:
+            self._timer = asyncio.get_running_loop().call_at(self._until, self._check_time)
+
+    def _check_time(self) -> None:
+        self._timer = None
+        loop = asyncio.get_running_loop()
+        if not self.core.owes:
+            return
+        if loop.time() < self._until:
+            self._timer = loop.call_at(self._until, self._check_time)
+        else:
+            self._flush_later()
 
     def _flush_later(self) -> None:
         """Starts to write the ends of served requests, if some are unwritten."""

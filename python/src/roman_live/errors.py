@@ -22,6 +22,9 @@ TEMPORARY_ERRORS = (RomanError, OSError)
 FILES = 12
 """The most files that a call of a device opens: a command needs three pipes, and some more at its start."""
 
+NO_FILE = os.open(os.devnull, os.O_RDONLY | os.O_CLOEXEC)
+"""A file that is duplicated to find out whether there are numbers left."""
+
 
 class Busy(RomanError):
     """A request is open."""
@@ -87,12 +90,11 @@ def check_files() -> None:
     lowest = max(0, resource.getrlimit(resource.RLIMIT_NOFILE)[0] - FILES)
     held: list[int] = []
     try:
-        held.append(os.open(os.devnull, os.O_RDONLY | os.O_CLOEXEC))
         with contextlib.suppress(OSError):
-            held.append(fcntl.fcntl(held[0], fcntl.F_DUPFD_CLOEXEC, lowest))
-        if held[-1] != lowest:
+            held.append(fcntl.fcntl(NO_FILE, fcntl.F_DUPFD_CLOEXEC, lowest))
+        if held != [lowest]:
             while len(held) < FILES:
-                held.append(os.dup(held[0]))
+                held.append(os.dup(NO_FILE))
     except OSError as error:
         check_file_limit(error)
         raise

@@ -6,12 +6,13 @@ import asyncio
 import json
 import logging
 import secrets
+import time
 from collections import deque
 from collections.abc import Mapping
-from dataclasses import dataclass, field
+from dataclasses import dataclass
 from datetime import datetime, timezone
-from functools import cached_property
-from typing import Any, Deque, Optional
+from functools import cached_property, lru_cache
+from typing import Any, Deque, NamedTuple, Optional
 
 from .limits import Bucket, one_line
 
@@ -42,18 +43,24 @@ BETWEEN_WRITES = 0.05
 
 def now() -> str:
     """The present time, in UTC."""
-    return datetime.now(timezone.utc).isoformat(timespec="milliseconds")
+    seconds, milliseconds = divmod(time.time_ns() // 1_000_000, 1000)
+    return f"{_second(seconds)}.{milliseconds:03}+00:00"
 
 
-@dataclass(frozen=True)
-class Event:
+@lru_cache(1)
+def _second(seconds: int) -> str:
+    """A time without what is below seconds."""
+    return datetime.fromtimestamp(seconds, timezone.utc).replace(tzinfo=None).isoformat()
+
+
+class Event(NamedTuple):
     """Something that happened: its number, time, kind, a text for people, and further details."""
 
     number: int
     time: str
     kind: str
     text: str
-    details: Mapping[str, Any] = field(default_factory=dict)
+    details: Mapping[str, Any]
 
     def to_json(self) -> dict[str, Any]:
         """The event as JSON."""

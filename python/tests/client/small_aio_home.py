@@ -60,7 +60,7 @@ class Talk:
         self.core = SimpleNamespace(document=DOCUMENT)
         self._home = home
 
-    async def tell(self, event: Event[Any]) -> Any:
+    async def _told(self, event: Event[Any]) -> Any:
         return await self._say(Tell(event))
 
     async def restore(self, snapshot: Snapshot) -> Any:

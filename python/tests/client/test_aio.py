@@ -35,6 +35,30 @@ async def works(action: str) -> States:
     return action, "e"
 
 
+async def test_a_reply_that_comes_at_once_isnt_awaited(monkeypatch: pytest.MonkeyPatch) -> None:
+    monkeypatch.setattr(streams, "MOMENT", 60_000)
+    async with home() as session:
+        assert session._told(protocol.do("brighten")) == roman.Offer("brighten", ("window", "ceiling"))
+        with pytest.raises(roman.Refusal):
+            session._told(protocol.use("kettle"))
+        assert session._told(protocol.use("window")) is None
+        assert session._told(protocol.saw("open", "day")) == roman.Move("bright", "day")
+
+
+async def test_a_reply_that_comes_later_is_awaited() -> None:
+    """Other calls take their turn after it."""
+    async with home() as session:
+        os.kill(session.pid, signal.SIGSTOP)
+        told = session._told(protocol.do("brighten"))
+        assert inspect.iscoroutine(told)
+        first = asyncio.ensure_future(told)
+        await asyncio.sleep(0)
+        second = session._told(protocol.use("window"))
+        assert inspect.iscoroutine(second)
+        os.kill(session.pid, signal.SIGCONT)
+        assert await asyncio.gather(first, second) == [roman.Offer("brighten", ("window", "ceiling")), None]
+
+
 async def broken(action: str) -> States:
     """A lamp that can't be reached."""
     raise roman.DeviceFailed("no answer")

@@ -6,7 +6,6 @@ import re
 import signal
 import socket
 from contextlib import AsyncExitStack
-from dataclasses import replace
 from pathlib import Path
 from typing import Any
 from unittest import mock
@@ -14,7 +13,7 @@ from unittest import mock
 import pytest
 
 from roman_client import Call, DeviceFailed, Frozen, InDoubt, StoreLocked
-from roman_client.store import Store
+from roman_client.store import Store, open_read_only
 from roman_live import errors, fleet, recovery
 from roman_live.config import HomeFile, HomeFileError
 from roman_live.devices import Answer, Listener, Reach
@@ -274,6 +273,33 @@ async def test_a_request_in_doubt_that_was_done(homes: InProcess) -> None:
     assert ((await home.view.state())["target"]["state"], homes.asked) == ("bright", ["window"])
 
 
+async def test_the_home_ends_as_a_request_over_http_is_open(homes: InProcess) -> None:
+    """The request ends before the store is closed."""
+    home = await homes.begin("home", '[journal]\npath = "journal"')
+    homes.gates["window"] = asyncio.Event()
+    asked = asyncio.ensure_future(home.requests.serve_here("brighten", "a"))
+    await homes.until(lambda: homes.asked)
+    await home.close()
+    assert asked.cancelled()
+    with open_read_only(homes.folder / "journal") as database:
+        assert database.execute("SELECT result FROM calls").fetchall() == [("in doubt",)]
+
+
+async def test_a_request_over_http_that_gets_no_turn(homes: InProcess) -> None:
+    """Its task goes on, and isn't taken for one that is cancelled."""
+    home = await homes.begin("home")
+    homes.gates["window"] = asyncio.Event()
+    first = asyncio.ensure_future(home.requests.serve("brighten"))
+    await homes.until(lambda: homes.asked)
+    task = asyncio.current_task()
+    assert task is not None
+    with pytest.raises(errors.Expired):
+        await home.requests.serve_here("boil", expires=0.01)
+    assert task.cancelling() == 0
+    homes.gates["window"].set()
+    await first
+
+
 async def test_a_service_that_is_new_in_the_document(homes: InProcess, caplog: pytest.LogCaptureFixture) -> None:
     journal = '[journal]\npath = "journal"'
     home = await homes.begin("home", journal)
@@ -499,7 +525,7 @@ async def test_one_that_is_nowhere_stays_frozen(homes: InProcess) -> None:
     assert (await homes.service("window"))["status"] == "frozen"
     homes.states["window"], homes.environment = "stuck", None
     position = home.dispatcher.core.position
-    place = replace(position.places["window"], frozen=Frozen.FAILED)
+    place = position.places["window"]._replace(frozen=Frozen.FAILED)
     home.dispatcher.core.position = position.with_place("window", place)
     assert not (await home.fleet.back("window", Answer("stuck")))
     assert "none of blind's states" in (await homes.service("window"))["last_error"]

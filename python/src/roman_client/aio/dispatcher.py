@@ -7,7 +7,7 @@ import functools
 import inspect
 import logging
 from collections.abc import Awaitable, Callable, Coroutine, Mapping
-from types import TracebackType
+from types import CoroutineType, TracebackType
 from typing import Any
 
 from .. import protocol
@@ -284,6 +284,8 @@ class Dispatcher:
             chosen = self.policy(effect.choice)
         finally:
             self._inside = None
+        if isinstance(chosen, CoroutineType):
+            return self._within(chosen, None)
         return self._within(_value(chosen), None) if inspect.isawaitable(chosen) else chosen
 
     def _begin_store(self, effect: Begin) -> Any:
@@ -312,7 +314,7 @@ class Dispatcher:
             LOG.exception("a listener failed at %r", notice)
 
     _performers: Mapping[type[Effect], Callable[[Any, Any], Any]] = {
-        Tell: lambda self, effect: self.session.tell(effect.event),
+        Tell: lambda self, effect: self.session._told(effect.event),
         Restore: lambda self, effect: self.session.restore(effect.snapshot),
         Serve: _serve,
         AskState: _state,

@@ -3,8 +3,8 @@
 from __future__ import annotations
 
 import asyncio
-from collections.abc import Callable
-from types import TracebackType
+from collections.abc import Callable, Coroutine
+from types import CoroutineType, TracebackType
 from typing import Any
 
 from .. import protocol
@@ -15,7 +15,7 @@ from ..protocol import LONGEST, Conversation, Effect, Event, Exchange, Program, 
 from ..replies import Explanation, Move, Offer, Repair, Report
 from ..snapshots import Snapshot
 from .library import LibraryStreams
-from .streams import Streams, run
+from .streams import Streams, advance, run
 
 IN_A_ROW = 100
 """After how many calls other tasks have a turn of the loop, though each reply comes at once."""
@@ -137,6 +137,15 @@ class Session:
         """Sends the line of any event of `roman_client.protocol`, and returns the value of its reply."""
         return await self.run(self.core.tell(event))
 
+    def _told(self, event: Event[Value]) -> Value | Coroutine[Any, Any, Value]:
+        """Like `tell`, but returns the value itself if it comes at once. Otherwise it returns a coroutine, which has to
+        be awaited before the next call."""
+        if self._turn is None or self._turn.locked() or (self._calls + 1) % IN_A_ROW == 0:
+            return self.tell(event)
+        self._calls += 1
+        value = advance(self.core.tell(event), self._perform)
+        return self._in_turn(value) if isinstance(value, CoroutineType) else value
+
     async def restore(self, snapshot: Snapshot) -> Report:
         """Goes on from a snapshot in a new program, and returns the report of its states."""
         return await self.run(self.core.resume(snapshot))
@@ -192,8 +201,12 @@ class Session:
         self._calls += 1
         if self._calls % IN_A_ROW == 0:
             await asyncio.sleep(0)
+        return await self._in_turn(run(steps, self._perform))
+
+    async def _in_turn(self, work: Coroutine[Any, Any, Value]) -> Value:
+        assert self._turn is not None
         async with self._turn:
-            return await run(steps, self._perform)
+            return await work
 
     def _perform(self, effect: Effect) -> Any:
         """Does one step of the session, or gives the coroutine that does it."""

@@ -258,18 +258,39 @@ async def abandon(pipe: asyncio.StreamWriter) -> None:
         await asyncio.shield(asyncio.ensure_future(pipe.wait_closed()))
 
 
-async def run(steps: Steps[Value], perform: Callable[[Effect], Any]) -> Value:
-    """Performs the effects one by one, and returns the value of the steps. A result that is a coroutine is awaited."""
+async def run(steps: Steps[Value], perform: Callable[[Effect], Any], begun: Any = None) -> Value:
+    """Performs the effects one by one, and returns the value of the steps. A result that is a coroutine is awaited.
+    `begun` is the coroutine of an effect that the steps have yielded already."""
     try:
-        effect = next(steps)
+        effect: Any = None if begun else next(steps)
         while True:
             try:
-                result = perform(effect)
+                result = begun or perform(effect)
                 if type(result) is CoroutineType:
                     result = await result
             except BaseException as error:
                 effect = steps.throw(error)
             else:
+                effect = steps.send(result)
+            begun = None
+    except StopIteration as end:
+        value: Value = end.value
+        return value
+
+
+def advance(steps: Steps[Value], perform: Callable[[Effect], Any]) -> Value | Coroutine[Any, Any, Value]:
+    """Performs the effects until one has to be awaited. Returns the value of the steps, or a coroutine that performs
+    the rest."""
+    try:
+        effect = next(steps)
+        while True:
+            try:
+                result = perform(effect)
+            except BaseException as error:
+                effect = steps.throw(error)
+            else:
+                if type(result) is CoroutineType:
+                    return run(steps, perform, result)
                 effect = steps.send(result)
     except StopIteration as end:
         value: Value = end.value
