@@ -79,7 +79,6 @@ CREATE TABLE calls (
     target TEXT,
     error TEXT
 ) STRICT;
-CREATE INDEX under_way ON calls (number) WHERE result IS NULL;
 CREATE TABLE changes (
     number INTEGER PRIMARY KEY,
     time REAL NOT NULL,
@@ -411,7 +410,8 @@ def _check_version(database: sqlite3.Connection) -> None:
 def _open_call(database: sqlite3.Connection) -> tuple[Call | None, int, tuple[Failure, ...]]:
     """The call that is under way, the number of its request, and the earlier failures of that request."""
     row = database.execute(
-        "SELECT service, action, requested, number, key, request FROM calls WHERE result IS NULL"
+        "SELECT service, action, requested, number, key, request FROM calls WHERE result IS NULL "
+        "AND number = (SELECT max(number) FROM calls)"
     ).fetchone()
     if row is None:
         return None, 0, ()
