@@ -163,6 +163,7 @@ class Store:
         self._paces: deque[float] = deque([1.0], maxlen=COMMITS)
         self._database: sqlite3.Connection | None = None
         self._written = Position("", "")
+        self._pending = self._written, 0.0
         self._files: dict[str, tuple[int, int]] = {}
         self._lock = _locked(self.path)
         try:
@@ -243,30 +244,41 @@ class Store:
     def commit(self, position: Position, entries: Sequence[Entry]) -> None:
         """Writes the position and the entries, and returns when they are on the disk. An entry that is written again
         changes nothing. Raises `StoreFailed`."""
+        self.write(position, entries)
+        self.sync()
+
+    def write(self, position: Position, entries: Sequence[Entry]) -> None:
+        """Begins a commit, which takes no time on the disk. `sync` ends it. Raises `StoreFailed`."""
         database = self._connection()
         self._check_there()
         begun = time.perf_counter()
-        try:
-            if len(entries) == 1 and isinstance(entries[0], CallBegun) and self._has_only_called(position):
-                _write_begun(database, entries[0])  # A single statement is a transaction by itself.
-            else:
-                self._write(database, position, entries)
-        except sqlite3.Error as error:
-            raise StoreFailed(f"{self.path}: {error}") from error
-        self._written = position
-        self._paces.append(time.perf_counter() - begun)
-
-    def _write(self, database: sqlite3.Connection, position: Position, entries: Sequence[Entry]) -> None:
-        """Writes in one transaction."""
-        database.execute("BEGIN IMMEDIATE")
-        try:
+        with self._rolled_back():
+            database.execute("BEGIN IMMEDIATE")
             for entry in entries:
                 _write_entry(database, entry)
-            _write_position(database, self._written, position)
-            database.execute("COMMIT")
-        except BaseException:
+            if not (len(entries) == 1 and isinstance(entries[0], CallBegun) and self._has_only_called(position)):
+                _write_position(database, self._written, position)
+        self._pending = position, time.perf_counter() - begun
+
+    def sync(self) -> None:
+        """Ends a commit, and returns when it is on the disk. This may run in a thread. Raises `StoreFailed`."""
+        begun = time.perf_counter()
+        with self._rolled_back():
+            self._connection().execute("COMMIT")
+        self._written, seconds = self._pending
+        self._paces.append(seconds + time.perf_counter() - begun)
+
+    @contextlib.contextmanager
+    def _rolled_back(self) -> Iterator[None]:
+        """Rolls the transaction back after an error."""
+        database = self._connection()
+        try:
+            yield
+        except BaseException as error:
             if database.in_transaction:
                 database.execute("ROLLBACK")
+            if isinstance(error, sqlite3.Error):
+                raise StoreFailed(f"{self.path}: {error}") from error
             raise
 
     def _has_only_called(self, position: Position) -> bool:

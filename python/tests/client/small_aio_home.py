@@ -38,6 +38,7 @@ class Disk(Store):
         self.stored = stored
         self._slow = slow
         self._home = home
+        self._begun: Commit
 
     @property
     def pace(self) -> float:
@@ -46,8 +47,11 @@ class Disk(Store):
     def begin(self, stored: Stored) -> None:
         self._home.universe = replace(self._home.universe, disk=stored)
 
-    def commit(self, position: Any, entries: Any) -> None:
-        self._home.commit(Commit(position, tuple(entries)))
+    def write(self, position: Any, entries: Any) -> None:
+        self._begun = Commit(position, tuple(entries))
+
+    def sync(self) -> None:
+        self._home.commit(self._begun)
 
     def close(self) -> None:
         pass

@@ -15,7 +15,7 @@ from unittest import mock
 import pytest
 
 import roman_client as roman
-from roman_client import NOT_DONE, Call, Device, Did, Dispatcher, Frozen, Session, Verdict, core
+from roman_client import NOT_DONE, Call, Device, Did, Dispatcher, Frozen, Session, Verdict, aio, core
 from roman_client.devices import Outcome, Told
 from roman_client.store import Store, open_read_only
 
@@ -716,6 +716,41 @@ def full(stores: Stores, commits: int) -> Iterator[None]:
 
     with mock.patch.object(Store, "commit", limited):
         yield
+
+
+async def test_a_slow_disk_is_awaited_in_a_thread(stores: Stores) -> None:
+    """The thread ends the commit, and does nothing else. If this fails, the entries are written with the next ones."""
+    threads: list[tuple[str, bool]] = []
+    broken: list[bool] = []
+
+    class Slow(Store):
+        pace = 1.0  # type: ignore[assignment]
+
+        def write(self, *words: Any) -> None:
+            threads.append(("write", threading.current_thread() is threading.main_thread()))
+            super().write(*words)
+
+        def sync(self) -> None:
+            threads.append(("sync", threading.current_thread() is threading.main_thread()))
+            with self._rolled_back():
+                if broken:
+                    raise sqlite3.OperationalError("disk I/O error")
+            super().sync()
+
+    async def shut(action: str) -> tuple[str, str]:
+        broken.append(True)
+        return "open", "day"
+
+    async with aio.Session(sample("home.json"), program=PROGRAM, timeout=60) as session:
+        devices = dict.fromkeys(stores.devices, shut)
+        async with aio.Dispatcher(session, devices, store=Slow(stores.path)) as dispatcher:
+            with pytest.raises(roman.StoreFailed, match="store: disk I/O error"):
+                await dispatcher.request("brighten")
+            broken.clear()
+            await dispatcher.jumpenv("dusk")
+    assert threads == [("write", True), ("sync", False)] * 3
+    assert stores.rows("SELECT result FROM calls") == [("served",)]
+    assert stores.rows("SELECT environment FROM home") == [("dusk",)]
 
 
 def test_a_full_disk_before_the_device_is_asked(stores: Stores) -> None:

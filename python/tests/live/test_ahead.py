@@ -16,7 +16,7 @@ from roman_client.store import CallBegun, CallEnded, Entry, Store, open_read_onl
 from .played import Playhouse
 from .test_requests import run
 
-COMMIT = Store.commit
+WRITE = Store.write
 
 CIRCLE = ("brighten", "boil", "pour", "dim")
 
@@ -32,13 +32,13 @@ class Commits:
         kinds = tuple(map(type, entries))
         if self.full(kinds):
             raise StoreFailed("the disk is full")
-        COMMIT(store, position, entries)
+        WRITE(store, position, entries)
         self.kinds.append(kinds)
 
 
 def watched(commits: Commits) -> Any:
     """Has the commits of all stores pass by."""
-    return mock.patch.object(Store, "commit", lambda store, *words: commits(store, *words))
+    return mock.patch.object(Store, "write", lambda store, *words: commits(store, *words))
 
 
 async def asked(home: Any, window: Any, *actions: str) -> list[Any]:

@@ -295,7 +295,8 @@ class Dispatcher:
     def _commit(self, effect: Commit) -> Any:
         assert self._store is not None
         if self._store.pace >= AT_ONCE:
-            return _in_a_thread(functools.partial(self._store.commit, effect.position, effect.entries))
+            self._store.write(effect.position, effect.entries)
+            return _in_a_thread(self._store.sync)
         self._store.commit(effect.position, effect.entries)
         return None
 
