@@ -150,7 +150,9 @@ def test_a_key_that_writes_no_letter_does_not_end_it(terminal: Terminal) -> None
 def test_names_are_completed(terminal: Terminal) -> None:
     terminal.type("do cl\t")
     assert "do clean " in terminal.until("clean ")
-    terminal.type("\nuse arm3\nsaw fr\t")
+    terminal.say("")
+    terminal.say("use arm3")
+    terminal.type("saw fr\t")
     assert terminal.until("saw free ").endswith("saw free ")
     terminal.type("fu\t")
     assert terminal.until("full ").endswith("full ")
