@@ -1,5 +1,5 @@
-"""What all tests share: how many cases Hypothesis draws (for a run of all tests, for hours, and until a wrong program
-is found out), how a test's output is passed on, and how a test that is a coroutine runs."""
+"""What all tests share: how many cases Hypothesis draws (for a run, for hours, and until a wrong program is found out;
+the gate draws the same ones each time), how a test's output is passed on, and how a test that is a coroutine runs."""
 
 import asyncio
 import inspect
@@ -11,8 +11,9 @@ import pytest
 from hypothesis import HealthCheck, Phase, settings
 
 settings.register_profile("tests", deadline=None, max_examples=100, suppress_health_check=list(HealthCheck))
+settings.register_profile("gate", settings.get_profile("tests"), derandomize=True)
 settings.register_profile("soak", settings.get_profile("tests"), max_examples=20_000)
-settings.register_profile("wrong", settings.get_profile("tests"), database=None, phases=[Phase.generate])
+settings.register_profile("wrong", settings.get_profile("gate"), phases=[Phase.generate])
 settings.load_profile("tests")
 
 

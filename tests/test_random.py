@@ -1,7 +1,8 @@
 """The built program against the reference, on runs that Hypothesis draws and makes smaller.
 
-Hypothesis tries a case that failed again at first. Put it into tests/corpus, whose cases are tried each time. To draw
-for longer: /usr/bin/python3 -m pytest tests/test_random.py --hypothesis-profile=soak --timeout=0
+Hypothesis tries a case that failed again at first, but in the gate, which draws the same ones each time. Put it into
+tests/corpus, whose cases are tried each time. To draw for longer:
+/usr/bin/python3 -m pytest tests/test_random.py --hypothesis-profile=soak --timeout=0
 """
 
 import pytest
