@@ -39,7 +39,7 @@ class Case:
             for name, text in self.shelf.items():
                 (Path(folder) / name).write_bytes(text)
             words = [PROGRAM, *self.words]
-            done = subprocess.run(words, cwd=folder, input=self.session, capture_output=True, timeout=60, check=False)
+            done = subprocess.run(words, cwd=folder, input=self.session, capture_output=True, timeout=400, check=False)
         return reference.run_fault(self.words, self.shelf, self.session, done.returncode, done.stdout)
 
     def text(self) -> str:

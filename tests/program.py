@@ -29,7 +29,7 @@ def run(words, folder, session=b"", environment=None, **streams):
         [ROMAN, *words],
         cwd=folder,
         stderr=subprocess.DEVNULL,
-        timeout=60,
+        timeout=400,
         env={**os.environ, **(environment or {})},
         **given,
         **streams,

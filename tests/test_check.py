@@ -65,7 +65,7 @@ class Tree:
             env=path,
             text=True,
             capture_output=True,
-            timeout=60,
+            timeout=400,
             check=False,
         )
 

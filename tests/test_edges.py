@@ -58,7 +58,7 @@ def test_input_in_odd_pieces(size, folder):
     with start(folder, "run", "workshop.json") as roman:
         for at in range(0, len(session), size):
             roman.stdin.write(session[at : at + size])
-        text, _ = roman.communicate(timeout=60)
+        text, _ = roman.communicate(timeout=400)
     assert (roman.returncode, text) == (program.DONE, (program.SAMPLES / "workshop.replies").read_bytes())
 
 
@@ -71,10 +71,10 @@ def test_each_reply_comes_before_the_next_line_is_asked_for(folder):
             (b"quit\n", b"bye\n"),
         ):
             roman.stdin.write(line)
-            ready, _, _ = select.select([roman.stdout], [], [], 10)
+            ready, _, _ = select.select([roman.stdout], [], [], 400)
             assert ready, line
             assert roman.stdout.readline() == reply
-        assert roman.wait(timeout=60) == program.DONE
+        assert roman.wait(timeout=400) == program.DONE
 
 
 def test_output_that_is_read_late(folder):
@@ -82,7 +82,7 @@ def test_output_that_is_read_late(folder):
     with start(
         folder, "run", file(folder, "reports.json", LAMP), file(folder, "reports", b"report\n" * lines)
     ) as roman:
-        text, _ = roman.communicate(timeout=60)
+        text, _ = roman.communicate(timeout=400)
     assert roman.returncode == program.DONE
     is_whole = text == RIGHT.text * lines
     assert is_whole  # To show how texts of this length differ takes pytest many minutes.
@@ -124,7 +124,7 @@ def test_a_pipe_in_place_of_a_file():
             [program.ROMAN, "synth", f"/dev/fd/{pipe.fileno()}"],
             pass_fds=[pipe.fileno()],
             capture_output=True,
-            timeout=60,
+            timeout=400,
             check=False,
         )
     assert Ended(done.returncode, done.stdout) == Ended(program.SHELF_FAULT, b"")

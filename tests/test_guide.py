@@ -59,7 +59,7 @@ def is_part(some: list[Any], whole: list[Any]) -> bool:
 
 def run(*words: str, **options: Any) -> "subprocess.CompletedProcess[str]":
     options.setdefault("cwd", TOP)
-    return subprocess.run(words, capture_output=True, text=True, timeout=60, check=False, **options)
+    return subprocess.run(words, capture_output=True, text=True, timeout=400, check=False, **options)
 
 
 def says(*words: str, **options: Any) -> str:

@@ -30,7 +30,7 @@ class Places(HTMLParser):
 
 
 def headline(*words: str) -> "subprocess.CompletedProcess[str]":
-    return subprocess.run([str(TOOL), *words], capture_output=True, text=True, check=False, timeout=60)
+    return subprocess.run([str(TOOL), *words], capture_output=True, text=True, check=False, timeout=400)
 
 
 def test_it_is_in_step_with_the_sources() -> None:

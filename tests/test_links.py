@@ -15,7 +15,7 @@ LONGEST = 150
 
 def test_the_lines_are_those_of_the_words() -> None:
     done = subprocess.run(
-        [str(TOP / "tools" / "links"), "--check"], capture_output=True, text=True, check=False, timeout=60
+        [str(TOP / "tools" / "links"), "--check"], capture_output=True, text=True, check=False, timeout=400
     )
     assert (done.returncode, done.stderr) == (0, ""), "tools/links sets the numbers"
 

@@ -44,7 +44,7 @@ def test_the_crates_and_their_arrows() -> None:
 
 def test_the_tool_draws_the_same() -> None:
     words = [str(TOP / "tools" / "map"), "--dot"]
-    done = subprocess.run(words, capture_output=True, text=True, check=False, timeout=60)
+    done = subprocess.run(words, capture_output=True, text=True, check=False, timeout=400)
     assert (done.returncode, done.stderr) == (0, "")
     drawn = {line.strip().replace(" -> ", "->") for line in done.stdout.splitlines() if " -> " in line}
     assert drawn == titles("edge")

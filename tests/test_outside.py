@@ -118,7 +118,7 @@ def test_a_word_that_is_no_utf_8(words: Any) -> None:
         cwd=TOP,
         stdin=subprocess.DEVNULL,
         capture_output=True,
-        timeout=60,
+        timeout=400,
         check=False,
     )
     assert (done.returncode, done.stdout, done.stderr) == (2, b"", b"")
@@ -880,7 +880,7 @@ def zsh(line: str, *expected: str) -> None:
 def wait_for(terminal: int, *expected: str) -> None:
     """Reads a terminal until these words came."""
     text = ""
-    until = time.monotonic() + 60
+    until = time.monotonic() + 400
     while not all(word in text for word in expected):
         if not select.select([terminal], [], [], until - time.monotonic())[0]:
             pytest.fail(f"{expected} didn't come: {text!r}")

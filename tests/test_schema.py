@@ -251,7 +251,7 @@ def ask(folder: Path, document: Any) -> tuple[int, str]:
         cwd=folder,
         capture_output=True,
         text=True,
-        timeout=60,
+        timeout=400,
         check=False,
     )
     first = {0: "pairs ", 1: "pairs ", 3: "refused ", 4: "limit "}.get(done.returncode, "no such status")

@@ -52,8 +52,8 @@ def simulated(folder: Path, document: Any) -> Iterator[tuple[str, list[str]]]:
         yield found[1], lines
     finally:
         running.terminate()
-        running.wait(timeout=120)
-        reading.join(timeout=120)
+        running.wait(timeout=400)
+        reading.join(timeout=400)
 
 
 def test_a_start_without_composition_says_why(tmp_path: Path) -> None:
@@ -74,7 +74,7 @@ def test_a_start_with_a_composition_says_nothing(tmp_path: Path) -> None:
 
 def test_a_target_that_can_go_no_further(tmp_path: Path) -> None:
     with simulated(tmp_path, STUCK) as (url, lines):
-        with urllib.request.urlopen(f"{url}/state", timeout=120) as reply:
+        with urllib.request.urlopen(f"{url}/state", timeout=400) as reply:
             state = json.load(reply)
     assert (state["composes"], state["target"]["stuck"]) == (True, True)
     assert [line for line in lines if "the target can go no further here, and isn't final" in line]

@@ -24,7 +24,7 @@ def draw(*words: str, text: str = "", **environment: str) -> "subprocess.Complet
         capture_output=True,
         encoding="utf-8",
         env={**os.environ, "ROMAN": PROGRAM, **environment},
-        timeout=60,
+        timeout=400,
         check=False,
     )
 
@@ -198,7 +198,7 @@ def test_the_locale_does_not_matter() -> None:
         {"LC_ALL": "C.UTF-8"},
         {"LC_ALL": "C", "PYTHONCOERCECLOCALE": "0", "PYTHONUTF8": "0", "HOME": "/nowhere"},
     ):
-        done = subprocess.run(words, cwd=TOP, env={**plain, **given}, capture_output=True, timeout=60, check=False)
+        done = subprocess.run(words, cwd=TOP, env={**plain, **given}, capture_output=True, timeout=400, check=False)
         assert (done.returncode, done.stderr) == (0, b"")
         done.stdout.decode("utf-8")
         drawn.append(done.stdout)
@@ -254,7 +254,7 @@ def test_services_that_are_alike_are_one(tmp_path: Path) -> None:
     path = tmp_path / "lamps.json"
     path.write_text(json.dumps(lamps), encoding="utf-8")
     explained = subprocess.run(
-        [PROGRAM, "run", str(path)], input="explain\n", capture_output=True, text=True, timeout=60, check=False
+        [PROGRAM, "run", str(path)], input="explain\n", capture_output=True, text=True, timeout=400, check=False
     ).stdout
     dot = draw(str(path), "--explanation", "-", "--all", "--dot", text=explained).stdout
     assert len([line for line in explained.splitlines() if "f3 may answer" in line]) == 1
@@ -320,7 +320,7 @@ def test_the_related_pairs_and_the_edges_to_lost_ones() -> None:
 def test_each_pair_is_one_that_a_session_comes_to() -> None:
     """From the start the program offers what the picture shows."""
     report = subprocess.run(
-        [PROGRAM, "synth", "samples/home.json"], cwd=TOP, capture_output=True, text=True, timeout=60, check=False
+        [PROGRAM, "synth", "samples/home.json"], cwd=TOP, capture_output=True, text=True, timeout=400, check=False
     ).stdout
     (offered,) = re.findall("^offer brighten: (.*)$", report, re.M)
     dot = draw("samples/home.json", "--offers", "--dot").stdout

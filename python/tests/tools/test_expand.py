@@ -39,7 +39,7 @@ def text_of(name: str) -> str:
 
 
 def run(*words: str, text: str = "") -> "subprocess.CompletedProcess[str]":
-    return subprocess.run(words, input=text, capture_output=True, text=True, timeout=60, check=False)
+    return subprocess.run(words, input=text, capture_output=True, text=True, timeout=400, check=False)
 
 
 # Tests that write documents into a folder, and work there.

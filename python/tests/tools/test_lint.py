@@ -249,7 +249,7 @@ def write(name: str, text: str) -> None:
 
 def said() -> str:
     """What the program says where it refuses."""
-    done = subprocess.run([PROGRAM, "synth", "s.json"], capture_output=True, text=True, timeout=60, check=False)
+    done = subprocess.run([PROGRAM, "synth", "s.json"], capture_output=True, text=True, timeout=400, check=False)
     return done.stdout.rstrip("\n") if done.returncode == 3 else ""
 
 
@@ -570,7 +570,7 @@ def test_an_error_where_the_program_refuses() -> None:
     def compare(broken: Broken) -> None:
         broken.write(Path("."))
         words = [PROGRAM, "synth", "broken.json"]
-        done = subprocess.run(words, capture_output=True, text=True, timeout=60, check=False)
+        done = subprocess.run(words, capture_output=True, text=True, timeout=400, check=False)
         checker = read("broken.json")
         found = all_findings(checker)
         errors = [each for each in found if each.level is Level.ERROR]

@@ -14,7 +14,7 @@ def mend(*words: str) -> "subprocess.CompletedProcess[str]":
     """What the tool writes for these words."""
     environment = {**os.environ, "ROMAN": PROGRAM}
     command = [str(TOP / "tools" / "roman-mend"), *words]
-    return subprocess.run(command, cwd=TOP, env=environment, capture_output=True, text=True, timeout=120, check=False)
+    return subprocess.run(command, cwd=TOP, env=environment, capture_output=True, text=True, timeout=400, check=False)
 
 
 @pytest.fixture

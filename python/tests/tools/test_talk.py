@@ -32,7 +32,7 @@ def echo(system: str, session: str) -> "subprocess.CompletedProcess[str]":
         env=environment("/"),
         capture_output=True,
         text=True,
-        timeout=120,
+        timeout=400,
         check=False,
     )
 
@@ -79,8 +79,8 @@ class Terminal:
         self.opening = self.until("> ")
 
     def until(self, end: str) -> str:
-        """What is written up to some text, for at most two minutes."""
-        text, late = "", time.monotonic() + 120
+        """What is written up to some text."""
+        text, late = "", time.monotonic() + 400
         while not text.endswith(end) and time.monotonic() < late:
             if select.select([self.leader], [], [], 0.2)[0]:
                 try:
@@ -139,7 +139,7 @@ def test_a_talk(terminal: Terminal) -> None:
     assert terminal.say("abort") == "aborted"
     assert 'did you mean "recharge"?' in terminal.say("do rechrge")
     terminal.type("quit\n")
-    assert terminal.running.wait(timeout=120) == 0
+    assert terminal.running.wait(timeout=400) == 0
 
 
 def test_a_key_that_writes_no_letter_does_not_end_it(terminal: Terminal) -> None:
@@ -190,11 +190,11 @@ def test_help_says_what_may_be_asked_now(terminal: Terminal) -> None:
 def test_the_history_is_kept(terminal: Terminal, tmp_path: Path) -> None:
     terminal.say("do clean")
     terminal.type("quit\n")
-    terminal.running.wait(timeout=120)
+    terminal.running.wait(timeout=400)
     history = tmp_path / "roman" / "history"
     assert history.read_text(encoding="utf-8").splitlines()[:1] == ["do clean"]
 
 
 def test_the_end_of_the_input(terminal: Terminal) -> None:
     terminal.type("\x04")
-    assert terminal.running.wait(timeout=120) == 0
+    assert terminal.running.wait(timeout=400) == 0

@@ -20,7 +20,7 @@ def tool(name: str, system: str, output: Any) -> tuple[int, str]:
         input=b"report\n" * 100,
         stdout=output,
         stderr=subprocess.PIPE,
-        timeout=120,
+        timeout=400,
         check=False,
     )
     return done.returncode, done.stderr.decode()
