@@ -407,7 +407,7 @@ class Fleet:
     async def _come_back(self, service: str, answer: Answer) -> None:
         """Takes a frozen service back that reported its state. Later reports are made after that."""
         try:
-            await self.back(service, answer)
+            await self.back(service, answer, is_newest=True)
             await asyncio.sleep(PAUSE)
         finally:
             newer = self._coming.pop(service)
@@ -490,11 +490,13 @@ class Fleet:
             known.last_error = error_text(error)
             self._report_silence(service)
 
-    async def back(self, service: str, answer: Answer) -> bool:
+    async def back(self, service: str, answer: Answer, is_newest: bool = False) -> bool:
         """A service that was frozen is back: it is thawed, unless that was done meanwhile, or it was frozen by hand.
-        False if that can't be."""
+        False if that can't be. An answer that `is_newest` counts also if the service was thawed meanwhile."""
         try:
             async with self._turn(service):
+                if is_newest and not self.registry[service].frozen:
+                    self.moved(service, answer)
                 if not self.registry[service].frozen or service in self.held():
                     return True
                 await self._thaw(service, answer, BY_ITSELF)

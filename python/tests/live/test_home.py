@@ -486,6 +486,20 @@ async def test_one_that_is_frozen_by_hand_meanwhile_stays_so(homes: InProcess) -
     assert (shown["status"], shown["by_hand"]) == ("frozen", True)
 
 
+async def test_what_it_says_while_it_is_taken_back_counts(homes: InProcess) -> None:
+    """It was asked for its state, and is taken back in that one when it reports another."""
+    home = await homes.begin("home")
+    homes.broken.add("window")
+    await home.requests.serve("brighten")
+    async with home.fleet._turn("window"):
+        asked = asyncio.ensure_future(home.fleet.back("window", Answer("shut")))
+        await asyncio.sleep(0)
+        home.fleet.moved("window", Answer("ajar"))
+        await asyncio.sleep(0.01)
+    assert await asked
+    await homes.until(lambda: home.registry["window"].state == "ajar")
+
+
 async def test_one_that_does_not_tell_keeps_no_other_from_coming_back(homes: InProcess) -> None:
     homes.seconds = 3600.0
     home = await homes.begin("home")
