@@ -1,6 +1,7 @@
 """What the tests start: a mosquitto, and roman-live itself."""
 
 import http.client
+import importlib.util
 import json
 import os
 import random
@@ -60,6 +61,15 @@ def until(holds: Callable[[], Any], what: str, passing: tuple[type[Exception], .
         if time.monotonic() > end:
             raise AssertionError(f"{what} didn't come")
         time.sleep(0.02)
+
+
+def loaded(file: Path) -> Any:
+    """The module in a file, which no package has."""
+    spec = importlib.util.spec_from_file_location(file.stem, file)
+    assert spec is not None and spec.loader is not None
+    module = importlib.util.module_from_spec(spec)
+    spec.loader.exec_module(module)
+    return module
 
 
 class Mosquitto:

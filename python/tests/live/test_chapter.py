@@ -3,16 +3,16 @@
 from __future__ import annotations
 
 import json
-import os
 import re
 import shlex
 import signal
-import subprocess
-import sys
 import threading
 import time
+from concurrent.futures import ThreadPoolExecutor
 from contextlib import AsyncExitStack
+from http.server import ThreadingHTTPServer
 from typing import Any
+from unittest import mock
 
 import paho.mqtt.client as mqtt  # type: ignore[import]
 import paho.mqtt.publish as messages  # type: ignore[import]
@@ -20,7 +20,7 @@ import pytest
 
 from . import DEMO, ROMAN_LIVE, TOP
 from .browser import Demonstrated, Running, wait_until
-from .machinery import PATIENCE, call, free_port, until
+from .machinery import PATIENCE, call, free_port, loaded, until
 
 GUIDE = (TOP / "docs" / "GUIDE.md").read_text(encoding="utf-8")
 CHAPTER = GUIDE[GUIDE.index("## Running your devices") : GUIDE.index("## Samples")]
@@ -68,27 +68,46 @@ def publish(home: Demonstrated, topic: str, message: str) -> bool:
     return False
 
 
-def threads(process: int) -> int:
-    """How many threads a process has: the kettle has one more for each call."""
-    return len(os.listdir(f"/proc/{process}/task"))
+class Watched:
+    """A lock that shows whether somebody waits for it."""
+
+    def __init__(self) -> None:
+        self._lock = threading.Lock()
+        self.is_awaited = threading.Event()
+
+    def __enter__(self) -> None:
+        if not self._lock.acquire(blocking=False):
+            self.is_awaited.set()
+            self._lock.acquire()
+
+    def __exit__(self, *words: object) -> None:
+        self._lock.release()
 
 
 def test_it_tells_nothing_while_it_acts(at_end: AsyncExitStack) -> None:
     """Else a home that was killed and begins again would have it act twice."""
-    port = free_port()
-    url = f"http://127.0.0.1:{port}/kettle"
-    seconds = {"DEMO_SECONDS": "2", "DEMO_FAILURES": "0"}
-    words = [sys.executable, str(DEMO / "kettle.py"), str(port)]
-    with subprocess.Popen(words, env={**os.environ, **seconds}) as kettle:
-        at_end.callback(kettle.kill)
-        until(lambda: call(url), "the kettle", (OSError,))
-        boils = threading.Thread(target=call, args=(url, {"id": 7, "action": "boil"}))
-        until(lambda: threads(kettle.pid) == 1, "the end of the first call")
-        boils.start()
-        until(lambda: threads(kettle.pid) == 2, "the call")
-        _, told = call(f"{url}?id=7")
-        boils.join()
-        kettle.kill()
+    kettle = loaded(DEMO / "kettle.py")
+    lock, acts, go_on = Watched(), threading.Event(), threading.Event()
+    kettle.Kettle.at_work, kettle.FAILURES = lock, 0.0
+
+    def act(seconds: float) -> None:
+        acts.set()
+        go_on.wait(PATIENCE)
+
+    kettle.time = mock.Mock(sleep=act)
+    server = ThreadingHTTPServer(("127.0.0.1", 0), kettle.Kettle)
+    at_end.callback(server.server_close)
+    at_end.callback(server.shutdown)
+    threading.Thread(target=server.serve_forever, daemon=True).start()
+    url = f"http://127.0.0.1:{server.server_port}/kettle"
+    with ThreadPoolExecutor(2) as threads:
+        boils = threads.submit(call, url, {"id": 7, "action": "boil"})
+        assert acts.wait(PATIENCE)
+        asks = threads.submit(call, f"{url}?id=7")
+        until(lambda: lock.is_awaited.is_set() or asks.done(), "the question")
+        go_on.set()
+        _, told = asks.result(PATIENCE)
+        assert boils.result(PATIENCE)[0] == 200
     assert told["done"]
     assert told["state"] in ("warm", "hot")
 

@@ -2,21 +2,19 @@
 
 from __future__ import annotations
 
-import importlib.util
 import json
 import os
 import subprocess
 import sys
 from collections.abc import Iterator
 from pathlib import Path
-from types import ModuleType
 from typing import Any
 from unittest import mock
 
 import pytest
 
 from . import DEMO
-from .machinery import call, free_port, until
+from .machinery import call, free_port, loaded, until
 
 
 @pytest.fixture
@@ -40,17 +38,14 @@ def test_over_http(kettle: str) -> None:
 
 
 @pytest.fixture
-def demo() -> ModuleType:
+def demo() -> Any:
     """The module of the devices over MQTT."""
-    spec = importlib.util.spec_from_file_location("mqtt_device", DEMO / "mqtt_device.py")
-    assert spec is not None and spec.loader is not None
-    module = importlib.util.module_from_spec(spec)
-    spec.loader.exec_module(module)
+    module = loaded(DEMO / "mqtt_device.py")
     vars(module).update(FAILURES=0.0, SECONDS=0.0)
     return module
 
 
-def test_over_mqtt(tmp_path: Path, demo: ModuleType, monkeypatch: pytest.MonkeyPatch) -> None:
+def test_over_mqtt(tmp_path: Path, demo: Any, monkeypatch: pytest.MonkeyPatch) -> None:
     """Also if the device was started again meanwhile."""
     monkeypatch.chdir(tmp_path)
 
