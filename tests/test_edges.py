@@ -71,7 +71,7 @@ def test_each_reply_comes_before_the_next_line_is_asked_for(folder):
             (b"quit\n", b"bye\n"),
         ):
             roman.stdin.write(line)
-            ready, _, _ = select.select([roman.stdout], [], [], 400)
+            ready, _, _ = select.select([roman.stdout], [], [], 60)
             assert ready, line
             assert roman.stdout.readline() == reply
         assert roman.wait(timeout=400) == program.DONE

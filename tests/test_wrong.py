@@ -299,7 +299,7 @@ def failed(program: Path, test: str) -> tuple[bool, str]:
     words = [str(TOP / SAMPLES)]
     if test != SAMPLES:
         words = [sys.executable, "-m", "pytest", "-q", "--hypothesis-profile=wrong", test]
-    done = subprocess.run(words, cwd=TOP, env=environment, capture_output=True, text=True, timeout=400, check=False)
+    done = subprocess.run(words, cwd=TOP, env=environment, capture_output=True, text=True, timeout=800, check=False)
     said = done.stdout + done.stderr
     if test != SAMPLES and not re.search(rf"^[0-9]+ {'failed' if done.returncode else 'passed'}.* in ", said, re.M):
         raise AssertionError(f"{test} wasn't run: {said}")
