@@ -303,7 +303,7 @@ class Dispatching(Generic[DeviceKind]):
 
     def is_owed(self, done: Done) -> bool:
         """Whether a request was served and isn't written yet."""
-        return any(each is done for each, _ in self._owed)
+        return bool(self._owed) and any(each is done for each, _ in self._owed)
 
     @property
     def owes(self) -> bool:

@@ -121,6 +121,7 @@ class InProcess:
         self._ended: ProgramEnded | None = None
         self._session = Handle()
         self._library = load_library(NAME if isinstance(library, bool) else os.fspath(library))
+        self._answer, self._copy_reply = self._library.roman_answer, self._library.roman_reply
         self._room = ctypes.create_string_buffer(4096)
         self._open(start.words[-1], Path() if start.folder is None else Path(start.folder))
 
@@ -138,7 +139,7 @@ class InProcess:
         if self._ended is not None:
             raise self._ended.again()
         line = exchange.data.rstrip(b"\n")
-        status = self._library.roman_answer(self._session, line, len(line))
+        status = self._answer(self._session, line, len(line))
         lines = self._reply()
         if status == MEMORY:
             self._close(MEMORY)
@@ -178,10 +179,10 @@ class InProcess:
 
     def _reply(self) -> list[str]:
         """The lines of the last reply."""
-        length = self._library.roman_reply(self._session, 0, self._room, len(self._room))
+        length = self._copy_reply(self._session, 0, self._room, len(self._room))
         if length > len(self._room):
             self._room = ctypes.create_string_buffer(length)
-            self._library.roman_reply(self._session, 0, self._room, length)
+            self._copy_reply(self._session, 0, self._room, length)
         return str(memoryview(self._room)[:length], "utf-8", "replace").split("\n")[:-1]
 
     def _close(self, status: int) -> int:

@@ -252,34 +252,35 @@ class Store:
         database = self._connection()
         self._check_there()
         begun = time.perf_counter()
-        with self._rolled_back():
+        try:
             database.execute("BEGIN IMMEDIATE")
             for entry in entries:
                 _write_entry(database, entry)
             if not (len(entries) == 1 and isinstance(entries[0], CallBegun) and self._has_only_called(position)):
                 _write_position(database, self._written, position)
+        except BaseException as error:
+            self._roll_back(database, error)
+            raise
         self._pending = position, time.perf_counter() - begun
 
     def sync(self) -> None:
         """Ends a commit, and returns when it is on the disk. This may run in a thread. Raises `StoreFailed`."""
+        database = self._connection()
         begun = time.perf_counter()
-        with self._rolled_back():
-            self._connection().execute("COMMIT")
+        try:
+            database.execute("COMMIT")
+        except BaseException as error:
+            self._roll_back(database, error)
+            raise
         self._written, seconds = self._pending
         self._paces.append(seconds + time.perf_counter() - begun)
 
-    @contextlib.contextmanager
-    def _rolled_back(self) -> Iterator[None]:
-        """Rolls the transaction back after an error."""
-        database = self._connection()
-        try:
-            yield
-        except BaseException as error:
-            if database.in_transaction:
-                database.execute("ROLLBACK")
-            if isinstance(error, sqlite3.Error):
-                raise StoreFailed(f"{self.path}: {error}") from error
-            raise
+    def _roll_back(self, database: sqlite3.Connection, error: BaseException) -> None:
+        """Rolls the transaction back. Raises `StoreFailed` if its error is one of the database."""
+        if database.in_transaction:
+            database.execute("ROLLBACK")
+        if isinstance(error, sqlite3.Error):
+            raise StoreFailed(f"{self.path}: {error}") from error
 
     def _has_only_called(self, position: Position) -> bool:
         """Whether only the number of the newest call has changed, which is also in the history."""

@@ -3,9 +3,8 @@
 from __future__ import annotations
 
 import asyncio
-import contextlib
 import logging
-from collections.abc import Coroutine, Iterator
+from collections.abc import Coroutine
 from typing import Any, TypeVar
 
 from .errors import TEMPORARY_ERRORS
@@ -43,14 +42,13 @@ class Background:
         task.add_done_callback(self._ended)
         return task
 
-    @contextlib.contextmanager
-    def joined(self) -> Iterator[None]:
-        """Counts the present task among those in the background, for a block."""
+    async def run_here(self, work: Coroutine[Any, Any, Value]) -> Value:
+        """The value of a coroutine. Until then the present task is one of those in the background."""
         task = asyncio.current_task()
         assert task is not None
         self._tasks.add(task)
         try:
-            yield
+            return await work
         finally:
             self._tasks.discard(task)
 

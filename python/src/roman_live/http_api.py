@@ -15,7 +15,7 @@ from pathlib import Path
 from typing import Any
 from urllib.parse import parse_qs, urlsplit
 
-from aiohttp import web
+from aiohttp import HttpVersion11, web
 
 from roman_client import InDoubt, KeyTaken, NoComposition, NotAllowed, Refusal, StoreFailed
 
@@ -42,6 +42,7 @@ from .pictures import Picture
 from .requests import CANCELLED, EXPIRED, PATIENCE
 from .sources import SOURCE, source_of
 from .states import explanation_to_json, failures_to_json
+from .whole_response import WholeResponse
 
 LONGEST_WAIT = 86_400
 """The most seconds that a request waits for its turn."""
@@ -303,7 +304,7 @@ class Server:
             raise web.HTTPUnauthorized(text="this isn't the token")
         return _let_in(token)
 
-    async def _post_request(self, request: web.BaseRequest) -> web.Response:
+    async def _post_request(self, request: web.BaseRequest) -> web.StreamResponse:
         body = await self._body(request)
         action, key, wait = _text(body, "action"), _optional_text(body, "key"), _flag(body, "wait", True)
         channel = "the page" if request.headers.get("Sec-Fetch-Site") == "same-origin" else "a client over HTTP"
@@ -313,6 +314,8 @@ class Server:
             raise web.HTTPBadRequest(text=NO_EXPIRY)
         serving = self.home.requests.serve_here(action, key, wait, expires=expires, source=_source(request))
         status, value = await _result(self.home, serving)
+        if status is HTTPStatus.OK and request.version == HttpVersion11 and request.keep_alive:
+            return WholeResponse(json.dumps(value).encode())
         return _json(value, status)
 
     async def _delete_request(self, key: str, request: web.BaseRequest) -> web.Response:

@@ -114,8 +114,7 @@ class Requests:
     ) -> dict[str, Any]:
         """Like `serve`, but in the present task, which is quicker. If that is cancelled, the request is."""
         self._check(action, wait)
-        with self.background.joined():
-            return await self._served(action, key, expires, source)
+        return await self.background.run_here(self._served(action, key, expires, source))
 
     def _check(self, action: str, wait: bool) -> None:
         """Lets a request in, or raises the reason why it isn't."""

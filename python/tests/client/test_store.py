@@ -732,9 +732,8 @@ async def test_a_slow_disk_is_awaited_in_a_thread(stores: Stores) -> None:
 
         def sync(self) -> None:
             threads.append(("sync", threading.current_thread() is threading.main_thread()))
-            with self._rolled_back():
-                if broken:
-                    raise sqlite3.OperationalError("disk I/O error")
+            interrupts = iter(broken)
+            self._connection().set_progress_handler(lambda: next(interrupts, False), 1)
             super().sync()
 
     async def shut(action: str) -> tuple[str, str]:
@@ -744,7 +743,7 @@ async def test_a_slow_disk_is_awaited_in_a_thread(stores: Stores) -> None:
     async with aio.Session(sample("home.json"), program=PROGRAM, timeout=60) as session:
         devices = dict.fromkeys(stores.devices, shut)
         async with aio.Dispatcher(session, devices, store=Slow(stores.path)) as dispatcher:
-            with pytest.raises(roman.StoreFailed, match="store: disk I/O error"):
+            with pytest.raises(roman.StoreFailed, match="store: interrupted"):
                 await dispatcher.request("brighten")
             broken.clear()
             await dispatcher.jumpenv("dusk")

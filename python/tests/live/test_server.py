@@ -6,10 +6,13 @@ import json
 import re
 import resource
 import signal
+import socket
 import subprocess
 import threading
+import time
 import urllib.request
 from contextlib import AsyncExitStack
+from email.utils import parsedate_to_datetime
 from http.server import BaseHTTPRequestHandler, HTTPServer
 from pathlib import Path
 from typing import Any
@@ -219,6 +222,44 @@ def test_what_is_not_there(home: Api) -> None:
         assert answer(method, path) == (405, '{"error": "405: Method Not Allowed"}')
     assert answer("DELETE", "/requests/a%2Fb") == (404, '{"error": "no request with this key waits"}')
     assert answer("GET", "/st%61te")[0] == 200
+
+
+def test_answers_to_requests_have_the_head_of_all_others(home: Api) -> None:
+    with contextlib.closing(http.client.HTTPConnection("127.0.0.1", home.live.port, timeout=PATIENCE)) as client:
+
+        def answer(method: str, path: str, action: str | None, **headers: str) -> tuple[int, dict[str, str], Any]:
+            body = None if action is None else json.dumps({"action": action})
+            client.request(method, path, body, {"Content-Type": "application/json", **headers})
+            response = client.getresponse()
+            text = response.read()
+            assert int(response.headers["Content-Length"]) == len(text)
+            heads = {name: value for name, value in response.headers.items() if name != "Content-Length"}
+            heads.pop("Server", None)
+            assert abs(parsedate_to_datetime(heads.pop("Date")).timestamp() - time.time()) < PATIENCE
+            return response.status, heads, json.loads(text)
+
+        status, usual, _ = answer("GET", "/state", None)
+        assert status == 200
+        before = client.sock
+        assert answer("POST", "/requests", "brighten")[:2] == (200, usual)
+        assert answer("POST", "/requests", "boil")[2]["served_by"] == "kettle"
+        assert answer("POST", "/requests", "sing")[:2] == (404, usual)
+        assert client.sock is before
+        status, heads, value = answer("POST", "/requests", "pour", Connection="close")
+        assert (status, heads, value["served_by"]) == (200, {**usual, "Connection": "close"}, "kettle")
+        assert client.sock is None
+
+
+def test_a_request_by_http_1_0(home: Api) -> None:
+    body = b'{"action": "brighten"}'
+    head = (
+        f"POST /requests HTTP/1.0\r\nHost: localhost\r\nContent-Type: application/json\r\nContent-Length: {len(body)}"
+    )
+    with socket.create_connection(("127.0.0.1", home.live.port), PATIENCE) as client:
+        client.sendall(head.encode() + b"\r\n\r\n" + body)
+        answer = b"".join(iter(lambda: client.recv(4096), b""))
+    assert answer.startswith(b"HTTP/1.0 200 OK\r\n")
+    assert b'"served_by": "window"' in answer
 
 
 def test_foreign_pages(home: Api) -> None:
