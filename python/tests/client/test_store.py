@@ -724,7 +724,7 @@ async def test_a_slow_disk_is_awaited_in_a_thread(stores: Stores) -> None:
     broken: list[bool] = []
 
     class Slow(Store):
-        pace = 1.0  # type: ignore[assignment]
+        pace = 1.0
 
         def write(self, *words: Any) -> None:
             threads.append(("write", threading.current_thread() is threading.main_thread()))
