@@ -14,7 +14,8 @@ LATEST = 0.01
 """The most seconds that a served request waits for the next one, to be written with it."""
 
 WORTH = 0.0001
-"""If a commit takes more seconds, a turn of the loop is worth its cost: other requests may come in it."""
+"""If a commit takes more seconds, a turn of the loop is worth its cost for a request that is alone: others may come in
+it."""
 
 
 class HomeDispatcher(aio.Dispatcher):
@@ -28,7 +29,7 @@ class HomeDispatcher(aio.Dispatcher):
     ) -> asyncio.Future[Done]:
         """Like `request`, but returns when the device has answered. The future is done when the answer is written. If
         `is_awaited` returns true, this waits for the next request."""
-        if self._store is not None and self._store.pace > WORTH:
+        if self._store is not None and self._store.pace > WORTH and not is_awaited():
             await asyncio.sleep(0)
         written: asyncio.Future[Done] = asyncio.get_running_loop().create_future()
         ahead = Ahead(functools.partial(settle, written), is_awaited)

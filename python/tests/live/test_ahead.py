@@ -141,6 +141,21 @@ def test_a_home_that_ends_writes_what_is_owed(tmp_path: Path) -> None:
     run(test())
 
 
+def test_only_a_request_that_is_alone_lets_others_come(tmp_path: Path) -> None:
+    async def test() -> None:
+        async with Playhouse(tmp_path).home() as home:
+            with mock.patch.object(Store, "pace", 1.0), mock.patch.object(
+                asyncio, "sleep", wraps=asyncio.sleep
+            ) as sleep:
+                first = await home.dispatcher.serve("brighten", None, None, lambda: True)
+                assert mock.call(0) not in sleep.mock_calls
+                second = await home.dispatcher.serve("boil", None, None, lambda: False)
+                assert sleep.mock_calls.count(mock.call(0)) == 1
+            assert [(await each).service for each in (first, second)] == ["window", "kettle"]
+
+    run(test())
+
+
 @pytest.mark.parametrize("seconds", [0.0, 1.0])
 def test_requests_at_once_see_each_other_if_the_disk_is_slow(tmp_path: Path, seconds: float) -> None:
     async def test() -> None:
