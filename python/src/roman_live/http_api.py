@@ -371,6 +371,8 @@ class Server:
         """The body of a request. Its connection keeps its place from then on."""
         if (request.content_length or 0) > LONGEST_BODY:
             raise web.HTTPRequestEntityTooLarge(LONGEST_BODY, request.content_length or 0)
+        if request.headers.get("Expect", "").lower() == "100-continue":
+            await request.writer.write(b"HTTP/1.1 100 Continue\r\n\r\n")
         data = await request.read()
         if len(data) > LONGEST_BODY:  # One without a length.
             raise web.HTTPRequestEntityTooLarge(LONGEST_BODY, len(data))

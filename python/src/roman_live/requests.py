@@ -157,7 +157,7 @@ class Requests:
     def _cancellable(
         self, waiting: set[Waiting], action: str, key: str | None, expires: float | None = None
     ) -> Iterator[None]:
-        """A wait of the present task. `cancel` ends it with `Cancelled`, and `expires` seconds end it with `Expired`."""
+        """A wait of the present task. `cancel` ends it with `Cancelled`, and `expires` seconds with `Expired`."""
         task = asyncio.current_task()
         assert task is not None
         found = Waiting(key, task)

@@ -250,6 +250,24 @@ def test_answers_to_requests_have_the_head_of_all_others(home: Api) -> None:
         assert client.sock is None
 
 
+def test_a_body_that_waits_for_its_turn(home: Api) -> None:
+    """It is wanted if the request may be made."""
+    body = b'{"action": "brighten"}'
+    for host, first in (("evil.example", b"HTTP/1.1 403 Forbidden"), ("localhost", b"HTTP/1.1 100 Continue")):
+        head = (
+            f"POST /requests HTTP/1.1\r\nHost: {host}\r\nContent-Type: application/json\r\nContent-Length: {len(body)}"
+        )
+        with socket.create_connection(("127.0.0.1", home.live.port), PATIENCE) as client, client.makefile(
+            "rb"
+        ) as answer:
+            client.sendall(head.encode() + b"\r\nExpect: 100-continue\r\n\r\n")
+            assert answer.readline().rstrip() == first
+            if first.endswith(b"Continue"):
+                assert answer.readline() == b"\r\n"
+                client.sendall(body)
+                assert answer.readline() == b"HTTP/1.1 200 OK\r\n"
+
+
 def test_a_request_by_http_1_0(home: Api) -> None:
     body = b'{"action": "brighten"}'
     head = (
