@@ -72,7 +72,9 @@ def test_refusals_of_costs_are_the_program_s(folder: Path) -> None:
 def test_advice_names_states(folder: Path) -> None:
     """The worst costs of the first requests are the program's own, and each value is one that it wrote."""
     words = (str(TOP / "samples" / "depot.json"), str(TOP / "samples" / "depot.costs"), "3")
-    written = subprocess.run([PROGRAM, "advise", *words], capture_output=True, text=True, timeout=400, check=True).stdout
+    written = subprocess.run(
+        [PROGRAM, "advise", *words], capture_output=True, text=True, timeout=400, check=True
+    ).stdout
     table = tool("roman-advice", *words).stdout.splitlines()
     assert table[0] == "the next 3 requests from the start cost 9 at worst"
     assert table[3].split() == ["idle", "dry", "load", "belt", "9"]
