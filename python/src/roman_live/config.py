@@ -227,7 +227,7 @@ class HomeFile:
             value = tomllib.loads(content)
         except OSError as error:
             raise HomeFileError(f"{path}: {error.strerror}") from None
-        except (tomllib.TOMLDecodeError, UnicodeDecodeError) as error:
+        except (tomllib.TOMLDecodeError, UnicodeDecodeError, RecursionError) as error:
             raise HomeFileError(f"{path}: {error}") from None
         table = Table("", value, [])
         home = table.attempt(lambda: _home_file(place, table), None)

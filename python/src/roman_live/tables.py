@@ -107,8 +107,8 @@ class Table:
 
 
 def text(value: Any) -> str:
-    """A text that isn't empty."""
-    if not isinstance(value, str) or not value:
+    """A text that isn't empty. No name of a file has NUL in it."""
+    if not isinstance(value, str) or not value or "\0" in value:
         raise ValueError("a text")
     return value
 
@@ -151,7 +151,11 @@ def one_of(words: Sequence[str]) -> Callable[[Any], str]:
 
 def words(value: Any) -> tuple[str, ...]:
     """A list of texts, one at least."""
-    if not isinstance(value, list) or not value or not all(isinstance(each, str) for each in value):
+    if (
+        not isinstance(value, list)
+        or not value
+        or not all(isinstance(each, str) and "\0" not in each for each in value)
+    ):
         raise ValueError('a list of texts, as ["./lamp", "--quiet"]')
     return tuple(value)
 

@@ -61,6 +61,9 @@ WRONG = (
     ("document = =", "at line 1, column 12"),
     ('documents = "h"', 'document is missing, as in document = "home.json"'),
     ("document = 5", "document is 5, and not a text"),
+    ('document = "a\\u0000b"', r"document is 'a\x00b', and not a text"),
+    ('document = "h"\n[page]\ntoken_file = "a\\u0000b"', r"page.token_file is 'a\x00b', and not a text"),
+    (f'{DEVICE}"command"\ncommand = ["a\\u0000b"]', r"devices.fan.command is ['a\x00b'], and not a list of texts"),
     ('document = "h"\nprogram_seconds = 0', "program_seconds is 0, and not a number of seconds"),
     (
         'document = "h"\n[page]\nwatch_token_file = "token"',
@@ -190,3 +193,8 @@ def test_what_is_wrong_is_named(folder: Path, text: str, expected: str) -> None:
 def test_no_file(folder: Path) -> None:
     with pytest.raises(HomeFileError, match="none.toml: No such file"):
         HomeFile.read(folder / "none.toml")
+
+
+def test_a_deep_file(folder: Path) -> None:
+    with pytest.raises(HomeFileError, match="home.toml: maximum recursion depth exceeded"):
+        read(folder, f"a = {'[' * 100_000}")

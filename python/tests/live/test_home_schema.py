@@ -106,7 +106,7 @@ def test_both_refuse_the_same_files(tmp_path: Path, home: dict[str, Any]) -> Non
 @pytest.mark.parametrize("text", [text for text, _ in WRONG if "= =" not in text])
 def test_the_schema_knows_the_faults_that_the_program_names(tmp_path: Path, text: str) -> None:
     (tmp_path / "empty").write_text("\n", encoding="ascii")
-    finer = "//x:70000", "[::1/", "x" * 64
+    finer = "//x:70000", "[::1/", "x" * 64, "\\u0000"
     only_the_program = ONLY_THE_PROGRAM.search(refusal(tmp_path, text)) or any(each in text for each in finer)
     assert SCHEMA.is_valid(tomllib.loads(text)) == bool(only_the_program)
 
