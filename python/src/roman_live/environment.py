@@ -29,6 +29,7 @@ class EnvironmentSensor:
         self._said = said
         self.reach = make_mapped("environment", sensor.map, self, broker, lambda call: ())
         self.state: str | None = None
+        """The state that it reported last, or None if it isn't there."""
 
     async def ask(self) -> None:
         """Reads the state."""
@@ -52,6 +53,7 @@ class EnvironmentSensor:
         self.moved("", answer)
 
     def _lost(self, error: Exception) -> None:
+        self.state = None  # It may have moved since.
         self._said(f"the environment's sensor: {error_text(error)}", False)
 
     # As a listener.
@@ -64,6 +66,7 @@ class EnvironmentSensor:
         """No call is made to it."""
 
     def gone(self, service: str) -> None:
+        self.state = None
         self._said("the environment's sensor is gone", False)
 
     def late(self, service: str, text: str) -> None:

@@ -25,6 +25,7 @@ from roman_live.devices.factory import make_mapped
 from roman_live.devices.mapped import MappedReach, Outcomes
 from roman_live.devices.mapped_http import MappedHttp
 from roman_live.devices.maps import HttpMap, Map, MqttMap, Reading, check_map
+from roman_live.environment import EnvironmentSensor
 from roman_live.errors import NoSpace
 from roman_live.polling import poll
 
@@ -407,6 +408,42 @@ async def test_its_last_will(tmp_path: Path) -> None:
     plug.broker.say("tele/plug/LWT", "what")
     plug.broker.say("tele/plug/LWT", "Online")
     assert plug.heard.told == [("gone",), ("late", "is available again")]
+
+
+MQTT_SENSOR = """
+document = "home.json"
+[mqtt]
+[environment]
+reach = "mqtt"
+state_topic = "light"
+availability_topic = "light/there"
+"""
+
+HTTP_SENSOR = """
+document = "home.json"
+[environment]
+reach = "http"
+state_url = "http://127.0.0.1:PORT/"
+"""
+
+
+@pytest.mark.parametrize("text", [MQTT_SENSOR, HTTP_SENSOR])
+async def test_a_sensor_that_is_gone_has_no_state(tmp_path: Path, text: str) -> None:
+    """What it said before it was gone doesn't undo the moves of the document."""
+    broker: Any = Broker()
+    said: list[bool] = []
+    found = read(tmp_path, text.replace("PORT", str(free_port()))).environment
+    assert found is not None
+    sensor = EnvironmentSensor(found, broker, lambda state: None, lambda text, well: said.append(well))
+    await sensor.reach.open()
+    sensor.moved("", Answer("dusk"))
+    assert sensor.state == "dusk"
+    if text == MQTT_SENSOR:
+        broker.say("light/there", "offline")
+    else:
+        await sensor.ask()
+    assert sensor.state is None and said == [False]
+    await sensor.reach.close()
 
 
 async def test_one_that_says_no_state_is_believed(tmp_path: Path) -> None:
