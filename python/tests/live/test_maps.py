@@ -9,6 +9,7 @@ import json
 import socket
 import threading
 from collections.abc import AsyncIterator, Callable, Coroutine
+from contextlib import AsyncExitStack
 from functools import partial
 from pathlib import Path
 from typing import Any, TypeVar
@@ -22,9 +23,8 @@ from roman_client import Call, DeviceFailed, Document
 from roman_live.config import HomeFile, HomeFileError
 from roman_live.devices import Answer, modbus
 from roman_live.devices.factory import make_mapped
-from roman_live.devices.mapped import MappedReach, Outcomes
-from roman_live.devices.mapped_http import MappedHttp
-from roman_live.devices.maps import HttpMap, Map, MqttMap, Reading, check_map
+from roman_live.devices.mapped import MappedReach
+from roman_live.devices.maps import HttpMap, Map, Reading, check_map
 from roman_live.environment import EnvironmentSensor
 from roman_live.errors import NoSpace
 from roman_live.polling import poll
@@ -304,11 +304,17 @@ def outcomes(call: Call) -> set[tuple[str, str]]:
 class Plug:
     """The plug of the map above, at a broker of its own."""
 
-    def __init__(self, found: Map, allowed: Outcomes = outcomes) -> None:
+    def __init__(self, found: Map) -> None:
         self.heard = Heard()
-        self.broker = Broker()
-        assert isinstance(found, MqttMap)
-        self.reach = make_mapped("ceiling", found, self.heard, self.broker, allowed)  # type: ignore[arg-type]
+        self.broker: Any = Broker()
+        self.reach = make_mapped("ceiling", found, self.heard, self.broker, outcomes)
+
+    @classmethod
+    async def opened(cls, folder: Path, text: str) -> Plug:
+        """The plug of this home file."""
+        plug = cls(map_of(folder, text))
+        await plug.reach.open()
+        return plug
 
     def result(self, power: str, retained: bool = False) -> None:
         self.broker.say("stat/plug/RESULT", json.dumps({"POWER": power}), retained)
@@ -323,8 +329,7 @@ class Plug:
 
 
 async def test_the_first_state_that_is_allowed_answers(tmp_path: Path) -> None:
-    plug = Plug(map_of(tmp_path, MQTT))
-    await plug.reach.open()
+    plug = await Plug.opened(tmp_path, MQTT)
     call = await plug.asked(plug.reach.ask(1, BRIGHTEN))
     assert plug.broker.sent == [("cmnd/plug/POWER", "ON")]
     plug.result("OFF")
@@ -340,9 +345,7 @@ async def test_the_first_state_that_is_allowed_answers(tmp_path: Path) -> None:
 
 async def test_the_environment_belongs_to_the_outcome(tmp_path: Path) -> None:
     more = 'environment_template = "{{ value_json.Light }}"\nenvironments = {1 = "day", 0 = "dusk"}\nask_topic'
-
-    plug = Plug(map_of(tmp_path, MQTT.replace("ask_topic", more, 1)))
-    await plug.reach.open()
+    plug = await Plug.opened(tmp_path, MQTT.replace("ask_topic", more, 1))
     call = await plug.asked(plug.reach.ask(1, BRIGHTEN))
     plug.broker.say("stat/plug/RESULT", '{"POWER": "ON", "Light": 0}')
     await asyncio.sleep(0)
@@ -352,8 +355,7 @@ async def test_the_environment_belongs_to_the_outcome(tmp_path: Path) -> None:
 
 
 async def test_a_state_without_a_command_is_a_move_by_hand(tmp_path: Path) -> None:
-    plug = Plug(map_of(tmp_path, MQTT))
-    await plug.reach.open()
+    plug = await Plug.opened(tmp_path, MQTT)
     plug.result("ON", retained=True)
     plug.result("OFF")
     plug.result("JAMMED")
@@ -361,8 +363,7 @@ async def test_a_state_without_a_command_is_a_move_by_hand(tmp_path: Path) -> No
 
 
 async def test_it_is_asked_for_its_state(tmp_path: Path) -> None:
-    plug = Plug(map_of(tmp_path, MQTT))
-    await plug.reach.open()
+    plug = await Plug.opened(tmp_path, MQTT)
     first, second = await plug.asked(plug.reach.tell(None)), await plug.asked(plug.reach.tell(None))
     assert plug.broker.sent == [("cmnd/plug/POWER", "")] * 2
     plug.result("ON")
@@ -379,8 +380,7 @@ async def test_it_is_asked_for_its_state(tmp_path: Path) -> None:
 
 
 async def test_one_that_can_not_be_asked_has_said_its_state(tmp_path: Path) -> None:
-    plug = Plug(map_of(tmp_path, MQTT.replace('ask_topic = "cmnd/plug/POWER"\n', "")))
-    await plug.reach.open()
+    plug = await Plug.opened(tmp_path, MQTT.replace('ask_topic = "cmnd/plug/POWER"\n', ""))
     plug.result("ON", retained=True)
     assert await plug.reach.tell(None) == Answer("on")
     call = await plug.asked(plug.reach.ask(1, BRIGHTEN))
@@ -395,8 +395,7 @@ async def test_one_that_can_not_be_asked_has_said_its_state(tmp_path: Path) -> N
 
 
 async def test_its_last_will(tmp_path: Path) -> None:
-    plug = Plug(map_of(tmp_path, MQTT))
-    await plug.reach.open()
+    plug = await Plug.opened(tmp_path, MQTT)
     plug.broker.say("tele/plug/LWT", "Online", retained=True)
     assert plug.heard.told == []
     call = await plug.asked(plug.reach.ask(1, BRIGHTEN))
@@ -458,9 +457,7 @@ async def test_one_that_says_no_state_is_believed(tmp_path: Path) -> None:
     brighten = {payload = '{"value": 1381719, "id": {{ id }}}', state = "on"}
     dim = {payload = '{"value": 1381716}', state = "off"}
     """
-
-    plug = Plug(map_of(tmp_path, text))
-    await plug.reach.open()
+    plug = await Plug.opened(tmp_path, text)
     assert await plug.reach.ask(7, BRIGHTEN) == Answer("on")
     assert plug.broker.sent == [("home/OpenMQTTGateway/commands/MQTTtoRF", '{"value": 1381719, "id": 7}')]
     assert await plug.reach.tell(None) is None
@@ -488,17 +485,25 @@ class Hue:
         self.on = False
         self.port = free_port()
         self.broken = False
+        self.heard = Heard()
         self.answers = asyncio.Event()
         self.answers.set()
 
-    async def start(self) -> web.AppRunner:
-        app = web.Application()
-        where = "/clip/v2/resource/light/1"
-        app.add_routes([web.get(where, self._get), web.put(where, self._put)])
+    @classmethod
+    async def begin(cls, folder: Path, at_end: AsyncExitStack, poll: str = "poll = 0.05") -> tuple[Hue, MappedReach]:
+        """A bridge that runs, and its light."""
+        bridge, app, where = cls(), web.Application(), "/clip/v2/resource/light/1"
+        app.add_routes([web.get(where, bridge._get), web.put(where, bridge._put)])
         runner = web.AppRunner(app)
+        at_end.push_async_callback(runner.cleanup)
         await runner.setup()
-        await web.TCPSite(runner, "127.0.0.1", self.port).start()
-        return runner
+        await web.TCPSite(runner, "127.0.0.1", bridge.port).start()
+        (folder / "key").write_text("secret\n", encoding="utf-8")
+        found = map_of(folder, HUE.replace("PORT", str(bridge.port)).replace("poll = 0.05", poll))
+        reach = make_mapped("ceiling", found, bridge.heard, None, outcomes)
+        at_end.push_async_callback(reach.close)
+        await reach.open()
+        return bridge, reach
 
     def _check(self, request: web.Request) -> None:
         if request.headers.get("hue-application-key") != "secret":
@@ -521,7 +526,7 @@ class Hue:
 async def polled(
     reach: MappedReach, heard: Heard, seconds: Callable[[], float] = lambda: PATIENCE
 ) -> AsyncIterator[None]:
-    """A device that is open, and polled for a listener. Each poll waits for `seconds()`."""
+    """A device that is polled for a listener. Each poll waits for `seconds()`."""
     assert reach.poll is not None
     moved = partial(heard.moved, "ceiling")
 
@@ -529,10 +534,8 @@ async def polled(
         return await reach.present(seconds())
 
     polling = asyncio.create_task(poll(reach.poll, told, lambda: 0, moved, lambda error: heard.gone("ceiling")))
-    await reach.open()
     yield
     polling.cancel()
-    await reach.close()
 
 
 async def until_told(heard: Heard, what: tuple[Any, ...]) -> None:
@@ -542,13 +545,9 @@ async def until_told(heard: Heard, what: tuple[Any, ...]) -> None:
             await asyncio.sleep(0.01)
 
 
-async def test_a_light_of_hue(tmp_path: Path) -> None:
-    (tmp_path / "key").write_text("secret\n", encoding="utf-8")
-
-    bridge, heard = Hue(), Heard()
-    found = map_of(tmp_path, HUE.replace("PORT", str(bridge.port)))
-    reach = make_mapped("ceiling", found, heard, None, outcomes)
-    runner = await bridge.start()
+async def test_a_light_of_hue(tmp_path: Path, at_end: AsyncExitStack) -> None:
+    bridge, reach = await Hue.begin(tmp_path, at_end)
+    heard = bridge.heard
     async with polled(reach, heard):
         assert await reach.tell(None) == Answer("off")
         assert await reach.ask(1, BRIGHTEN) == Answer("on")
@@ -563,17 +562,12 @@ async def test_a_light_of_hue(tmp_path: Path) -> None:
         bridge.broken = False
         heard.told.clear()
         await until_told(heard, ("moved", "off"))
-    await runner.cleanup()
 
 
-async def test_one_that_hangs_is_gone_until_it_answers(tmp_path: Path) -> None:
+async def test_one_that_hangs_is_gone_until_it_answers(tmp_path: Path, at_end: AsyncExitStack) -> None:
     """So it is with one that can't be asked for want of files, which isn't gone."""
-    (tmp_path / "key").write_text("secret\n", encoding="utf-8")
-    bridge, heard = Hue(), Heard()
-    found = map_of(tmp_path, HUE.replace("PORT", str(bridge.port)))
-    reach = make_mapped("ceiling", found, heard, None, outcomes)
-    runner = await bridge.start()
-    seconds = PATIENCE
+    bridge, reach = await Hue.begin(tmp_path, at_end)
+    heard, seconds = bridge.heard, PATIENCE
     async with polled(reach, heard, lambda: seconds):
         await until_told(heard, ("moved", "off"))
         with mock.patch.object(socket, "socket", side_effect=OSError(errno.EMFILE, "Too many open files")) as refused:
@@ -589,23 +583,14 @@ async def test_one_that_hangs_is_gone_until_it_answers(tmp_path: Path) -> None:
         bridge.answers.set()
         await until_told(heard, ("moved", "off"))
         assert ("gone",) not in heard.told
-    await runner.cleanup()
 
 
-async def test_want_of_files_after_a_command(tmp_path: Path) -> None:
+async def test_want_of_files_after_a_command(tmp_path: Path, at_end: AsyncExitStack) -> None:
     """The device was told, so it isn't told again."""
-    (tmp_path / "key").write_text("secret\n", encoding="utf-8")
-    bridge = Hue()
-    found = map_of(tmp_path, HUE.replace("PORT", str(bridge.port)).replace("poll = 0.05", "poll = 3600"))
-    reach = make_mapped("ceiling", found, Heard(), None, outcomes)
-    assert isinstance(reach, MappedHttp)
-    runner = await bridge.start()
-    await reach.open()
+    _, reach = await Hue.begin(tmp_path, at_end, "poll = 3600")
     there = json.dumps({"data": [{"on": {"on": True}}]})
     with mock.patch.object(reach, "fetch", side_effect=[NoSpace("too many open files"), there]):
         assert await reach.ask(1, BRIGHTEN) == Answer("on")
-    await reach.close()
-    await runner.cleanup()
 
 
 VALVE = """
