@@ -269,7 +269,7 @@ async def test_what_a_listener_does_not_read_takes_little_memory(tmp_path: Path)
         unread = 0
         with mock.patch.object(events, "BETWEEN_WRITES", 0.0):
             for _ in range(900):
-                served.home.events.add("begun", "x" * 10_000)
+                served.home.events.add("begun", "begun", more="x" * 10_000)
                 for _ in range(5):
                     await asyncio.sleep(0)
                 unread = max(unread, connection._transport.get_write_buffer_size())
