@@ -253,7 +253,7 @@ async def test_a_listener_that_does_not_read_is_let_go(tmp_path: Path) -> None:
         client = await listen(served)
         client.writer.transport.pause_reading()  # type: ignore[attr-defined]
         while served.home.events.listeners:
-            served.home.events.add("begun", "x" * 100_000)
+            served.home.events.add("begun", "begun", more="x" * 100_000)
             await asyncio.sleep(0.01)
         client.writer.transport.resume_reading()  # type: ignore[attr-defined]
         await client.ended()
