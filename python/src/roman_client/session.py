@@ -15,7 +15,7 @@ from .protocol import LONGEST, Conversation, Effect, Event, Exchange, Program, S
 from .replies import Explanation, Move, Offer, Repair, Report
 from .snapshots import Snapshot
 
-MOMENT = 0.1
+PATIENCE = 5.0
 """How many seconds the end of a session waits for the call of another thread before it interrupts it."""
 
 
@@ -184,7 +184,7 @@ class Session:
     def close(self) -> int:
         """Closes the input, ends the program if it doesn't end by itself, and returns its status. A call of another
         thread that waits for a long reply is interrupted, and raises `ProgramEnded`."""
-        while not self._turn.acquire(timeout=MOMENT):
+        while not self._turn.acquire(timeout=PATIENCE):
             self._running().interrupt()
         try:
             return self._running().close()

@@ -14,7 +14,7 @@ from datetime import datetime, timezone
 from functools import cached_property, lru_cache
 from typing import Any, Deque, NamedTuple, Optional
 
-from .limits import Bucket, one_line
+from .limits import LONGEST_LINE, Bucket, one_line
 
 LOG = logging.getLogger("roman_live")
 
@@ -104,7 +104,7 @@ class EventLog:
 
     def add(self, kind: str, text: str, *, level: int = logging.INFO, **details: Any) -> None:
         """Adds an event, and logs it at this level. Events from outside that come too often are dropped."""
-        text = one_line(text)
+        text = one_line(text, LONGEST_LINE)
         if kind in FROM_OUTSIDE and not self._is_seldom(kind, details.get("service")):
             return
         LOG.log(level, "%s", text)

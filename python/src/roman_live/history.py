@@ -14,13 +14,10 @@ from typing import Any
 from roman_client.store import open_read_only
 
 from .config import HomeFile, HomeFileError
-from .limits import one_line
+from .limits import LONGEST_LINE, one_line
 
 LONGEST_PAGE = 100
 """The most entries on a page."""
-
-LONGEST_LINE = 2000
-"""The most letters of an entry in words."""
 
 LAST = 2**63 - 1
 """The greatest number of a call or a change."""

@@ -13,7 +13,10 @@ LONGEST_NAME = 256
 """The most bytes of a key, and of a name that a request brings."""
 
 LONGEST_TEXT = 500
-"""The most letters of a text that a device or a stranger brings into a log, an event or an error."""
+"""The most letters of a text that a device or a stranger brings into an error."""
+
+LONGEST_LINE = 2000
+"""The most letters of an event, and of an entry of the history."""
 
 Clock = Callable[[], float]
 
