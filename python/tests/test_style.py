@@ -18,5 +18,5 @@ CHECKERS = {
 
 @pytest.mark.parametrize("checker", CHECKERS)
 def test_a_checker_has_no_complaint(checker: str) -> None:
-    done = subprocess.run(CHECKERS[checker], cwd=PYTHON, capture_output=True, text=True, timeout=800, check=False)
+    done = subprocess.run(CHECKERS[checker], cwd=PYTHON, capture_output=True, text=True, timeout=1700, check=False)
     assert (done.returncode, done.stderr) == (0, ""), done.stdout
