@@ -282,10 +282,12 @@ def test_a_device_within_its_deadline() -> None:
 def test_a_late_answer_is_nobody_elses() -> None:
     """The first call's answer comes while the device is asked for the second time."""
     answers: "List[queue.Queue[States]]" = []
+    begun = threading.Event()
 
     def slow(action: str) -> States:
         mine: "queue.Queue[States]" = queue.Queue()
         answers.append(mine)
+        begun.set()
         return mine.get(timeout=PATIENCE)
 
     with lamps(2) as session:
@@ -294,6 +296,7 @@ def test_a_late_answer_is_nobody_elses() -> None:
         for action in ("on", "off", "on"):
             done = dispatcher.request(action)
             assert done.service == "l2"
+        assert begun.wait(PATIENCE)
         assert len(answers) == 1  # It isn't asked again before it has come to its end.
         answers[0].put(("on", "e"))
         for action in ("off", "on") * 50:

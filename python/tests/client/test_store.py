@@ -939,13 +939,13 @@ def test_a_device_that_hangs_has_one_thread(stores: Stores) -> None:
     hangs = threading.Event()
     stores.devices["window"].timeout = 0.02
     stores.devices["window"].before = lambda call: hangs.wait()
-    before = threading.active_count()
+    before = set(threading.enumerate())
     with stores.dispatcher(back=lambda service: True) as dispatcher:
         for _ in range(5):
             for action in ("brighten", "boil", "pour"):
                 dispatcher.request(action)
             dispatcher.jumpenv("day")
             dispatcher.request("dim")
-        assert threading.active_count() == before + 1
+        assert len(set(threading.enumerate()) - before) == 1
         assert len(stores.devices["window"].calls) == 1
         hangs.set()

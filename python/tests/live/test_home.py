@@ -575,17 +575,17 @@ def other_program(homes: InProcess, hangs: str) -> Any:
 
 
 async def test_a_request_goes_on_with_another_program(homes: InProcess) -> None:
-    home = await homes.begin("home", "program_seconds = 3")
+    home = await homes.begin("home", "program_seconds = 10")
     os.kill(home.session.pid, signal.SIGSTOP)
     assert (await asyncio.wait_for(home.requests.serve("brighten"), 60))["served_by"] == "window"
-    assert kinds(homes)["restarted"] == "the program was started again: no whole reply within 3.0 seconds"
+    assert kinds(homes)["restarted"] == "the program was started again: no whole reply within 10.0 seconds"
 
 
 async def test_the_state_comes_from_another_program(homes: InProcess) -> None:
-    home = await homes.begin("home", "program_seconds = 3")
+    home = await homes.begin("home", "program_seconds = 10")
     os.kill(home.session.pid, signal.SIGSTOP)
     assert (await asyncio.wait_for(home.view.state(), 60))["composes"]
-    assert kinds(homes)["hung"] == "the program was ended: no whole reply within 3.0 seconds"
+    assert kinds(homes)["hung"] == "the program was ended: no whole reply within 10.0 seconds"
     assert "restarted" in kinds(homes)
 
 
@@ -598,7 +598,7 @@ async def test_a_program_that_hangs_at_the_beginning(homes: InProcess) -> None:
 async def test_its_advice(homes: InProcess, caplog: pytest.LogCaptureFixture) -> None:
     costs = homes.folder / "costs"
     costs.write_text('[["drone", "ship", 3], ["van", "ship", 2]]', encoding="utf-8")
-    more = f'program_seconds = 3\n[policy]\nchoose = "least worst"\ncosts = "{costs}"'
+    more = f'program_seconds = 10\n[policy]\nchoose = "least worst"\ncosts = "{costs}"'
     with other_program(homes, "advise"):
         home = await homes.begin("depot", more)
     await home.requests.serve("load")
@@ -606,7 +606,7 @@ async def test_its_advice(homes: InProcess, caplog: pytest.LogCaptureFixture) ->
     with caplog.at_level("WARNING", "roman_live"):
         done = await asyncio.wait_for(home.requests.serve("ship"), 60)
     assert done["served_by"] == "van"
-    assert lines(caplog) == ["WARNING:roman_live:advise gave nothing within 3.0 seconds"]
+    assert lines(caplog) == ["WARNING:roman_live:advise gave nothing within 10.0 seconds"]
 
 
 # The program ends, and can't be started for a while, as where its package is replaced.

@@ -15,7 +15,7 @@ from roman_live.history import entries
 from roman_live.limits import LONGEST_BODY, LONGEST_NAME, Limits
 
 from . import TOP, sample
-from .machinery import Live, until
+from .machinery import PATIENCE, Live, until
 from .world import HttpDevices, World
 
 REFERENCE = (TOP / "docs" / "LIVE.md").read_text(encoding="utf-8")
@@ -104,11 +104,11 @@ document = "{document}"
 path = "home.db"
 """
 
-DEVICE = """
-[devices.{name}]
+DEVICE = f"""
+[devices.{{name}}]
 reach = "http"
-url = "{url}/{name}"
-seconds = 5
+url = "{{url}}/{{name}}"
+seconds = {PATIENCE}
 """
 
 
@@ -139,6 +139,8 @@ def test_the_history_says_what_became_of_a_call(
         live.kill()
         if mute:
             world.mute.add("window")
+            text = live.file.read_text(encoding="utf-8")
+            live.file.write_text(text.replace(f"seconds = {PATIENCE}", "seconds = 1"), encoding="utf-8")
         live.start()
         (call,) = entries(HomeFile.read(live.file), None, 0.0)
         assert (call["action"], call["service"], call["result"]) == ("brighten", "window", result)
