@@ -13,7 +13,7 @@ import pytest
 
 from roman_client import DeviceFailed
 from roman_client.store import open_read_only
-from roman_live import history
+from roman_live import history, recovery
 from roman_live.command_line import main
 from roman_live.http_api import result
 
@@ -24,7 +24,7 @@ from .test_load import Served
 
 @pytest.fixture
 def playhouse(tmp_path: Path) -> Playhouse:
-    """A home with a request that two services had, and a change. It has ended."""
+    """A home with a request that two services had, and a change. It has ended before the one that failed was back."""
     playhouse = Playhouse(tmp_path)
 
     async def live() -> None:
@@ -33,7 +33,8 @@ def playhouse(tmp_path: Path) -> Playhouse:
             await home.requests.serve("brighten", "monday", source="http 192.168.1.7")
             await home.fleet.freeze("kettle", "the cleaner")
 
-    asyncio.run(live())
+    with mock.patch.object(recovery, "FIRST_PAUSE", 3600.0):
+        asyncio.run(live())
     return playhouse
 
 
