@@ -639,6 +639,9 @@ class SlowMachine:
         self.connects.set()
         return self.free.wait(PATIENCE)
 
+    def read_holding_registers(self, address: int, **words: int) -> mock.Mock:
+        return mock.Mock(**{"isError.return_value": False, "registers": [0, 1000]})
+
     def write_register(self, address: int, value: int, **unit: int) -> mock.Mock:
         self.written.append((address, value))
         return mock.Mock(**{"isError.return_value": False})
@@ -659,10 +662,10 @@ async def test_a_call_that_is_given_up_writes_nothing(tmp_path: Path, given_up: 
             call.cancel()
             await asyncio.wait([call])
         machine.free.set()
+        if not given_up:
+            assert await call == Answer("on")
         assert await asyncio.to_thread(machine.closed.wait, PATIENCE)
         assert machine.written == ([] if given_up else [(5, 1000)])
-        call.cancel()
-        await asyncio.wait([call])
         await reach.close()
 
 

@@ -422,6 +422,7 @@ def test_names_that_javascript_has_too(browsing: Browsing) -> None:
         text = text.replace(f'"{name}"', f'"{other}"')
     (home.folder / "home.json").write_text(text, encoding="utf-8")
     home.begin()
+    browsing.driver.get("about:blank")  # The page of the test before complains that its server is gone.
     browsing.driver.get_log("browser")
     browsing.open(home)
     browsing.find("#drawing summary").click()
