@@ -29,11 +29,11 @@ pub(crate) fn make_floor(alloc: Global) -> Result<Environment, AllocError>
 }
 
 /// Returns the steps of the table, each with the guard of every environment state.
-fn steps_of(alloc: Global, steps: &[Triple]) -> Result<Vec<Move>, AllocError>
-    ensures { IfOk result (λ steps. steps.items ≡ map (λ step. (step.0, 1, step.1, step.2)) steps.now) }
+fn steps_of(alloc: Global, triples: &[Triple]) -> Result<Vec<Move>, AllocError>
+    ensures { IfOk result (λ steps. steps.items ≡ map (λ triple. (triple.0, 1, triple.1, triple.2)) triples.now) }
 {
     let always = every_state();
-    steps
+    triples
         .iter()
         .map(|&(from, action, to)| (from, always, action, to))
         .collect(alloc)
