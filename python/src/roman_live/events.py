@@ -12,7 +12,7 @@ from collections.abc import Mapping
 from dataclasses import dataclass
 from datetime import datetime, timezone
 from functools import cached_property, lru_cache
-from typing import Any, Deque, NamedTuple, Optional
+from typing import Any, Deque, NamedTuple
 
 from .limits import LONGEST_LINE, Bucket, one_line
 
@@ -33,12 +33,17 @@ LONGEST_NUMBER = 18
 LONGEST_MARK = 64
 """The most letters of the mark of an event."""
 
-BEHIND = 1000
-"""The most messages that may wait for a listener. If more come, it is removed."""
-
+MOST_UNREAD = 16_384
+"""About how many bytes of events a listener is sent at once. It is sent no more before it has read them."""
 
 BETWEEN_WRITES = 0.05
 """The fewest seconds between two writes to a listener."""
+
+EACH_LISTENER = 0.004
+"""The seconds by which each listener delays the next write to another one, so that many don't keep a home busy."""
+
+LONGEST_PAUSE = 4.0
+"""The most seconds between two writes to a listener."""
 
 
 def now() -> str:
@@ -88,8 +93,49 @@ class Message:
         return f"{mark}event: {self.name}\ndata: {json.dumps(self.value)}\n\n".encode()
 
 
-Listener = asyncio.Queue[Optional[Message]]
-"""The messages that wait for a listener. None means that it was removed."""
+class Listener:
+    """Someone who is sent all events after one, and the newest state."""
+
+    def __init__(self, log: EventLog, number: int) -> None:
+        self._log = log
+        self._number = number
+        """The number of the last event that was sent."""
+        self._state = log.state
+        self.has_ended = False
+
+    def _has_news(self) -> bool:
+        return self.has_ended or self._number < self._log.last or self._state is not self._log.state
+
+    async def heard(self, seconds: float) -> list[Message]:
+        """The next messages. Waits at most that long for the first one, and returns an empty list if none comes."""
+        try:
+            async with asyncio.timeout(seconds):
+                while not self._has_news():
+                    await self._log.news.wait()
+        except TimeoutError:
+            return []
+        await self.pause()
+        return self.take()
+
+    async def pause(self) -> None:
+        """The time between two writes."""
+        await asyncio.sleep(max(BETWEEN_WRITES, min(EACH_LISTENER * self._log.listeners, LONGEST_PAUSE)))
+
+    def take(self) -> list[Message]:
+        """The next messages, and the newest state if no event is left. Of more events than are kept, the oldest are
+        dropped."""
+        messages: list[Message] = []
+        room = MOST_UNREAD
+        for event in self._log.after(self._number):
+            messages.append(self._log.message(event))
+            self._number = event.number
+            room -= len(messages[-1].encoded)
+            if room < 0:
+                return messages
+        if self._log.state is not None and self._log.state is not self._state:
+            messages.append(self._log.state)
+        self._state = self._log.state
+        return messages
 
 
 class EventLog:
@@ -97,8 +143,14 @@ class EventLog:
 
     def __init__(self) -> None:
         self.run = secrets.token_hex(8)
-        self._next = 1
+        self.last = 0
+        """The number of the last event."""
+        self.state: Message | None = None
+        """The newest state that listeners are sent."""
+        self.news = asyncio.Event()
+        """Wakes whoever waits for it, at each event and state."""
         self._kept: Deque[Event] = deque(maxlen=KEPT)
+        self._messages: dict[int, Message] = {}
         self._listeners: set[Listener] = set()
         self._buckets: dict[tuple[str, Any], Bucket] = {}
 
@@ -108,46 +160,51 @@ class EventLog:
         if kind in FROM_OUTSIDE and not self._is_seldom(kind, details.get("service")):
             return
         LOG.log(level, "%s", text)
-        event = Event(self._next, now(), kind, text, details)
-        self._next += 1
-        self._kept.append(event)
-        if self._listeners:
-            self.send(self.message(event))
+        self.last += 1
+        self._kept.append(Event(self.last, now(), kind, text, details))
+        self._messages.pop(self.last - KEPT, None)
+        self._wake()
+
+    def show(self, state: Any) -> None:
+        """Sends a state to all listeners."""
+        self.state = Message("state", state)
+        self._wake()
+
+    def _wake(self) -> None:
+        self.news.set()
+        self.news.clear()
 
     def _is_seldom(self, kind: str, service: Any) -> bool:
         return self._buckets.setdefault((kind, service), Bucket(BURST, 1.0)).take()
 
     def message(self, event: Event) -> Message:
-        """The message with an event. Its mark identifies the event across runs."""
-        return Message("event", {**event.to_json(), "run": self.run}, f"{self.run}-{event.number}")
+        """The message with an event, which is one for all listeners. Its mark identifies the event across runs."""
+        found = self._messages.get(event.number)
+        if found is None:
+            found = Message("event", {**event.to_json(), "run": self.run}, f"{self.run}-{event.number}")
+            self._messages[event.number] = found
+        return found
 
-    def send(self, message: Message) -> None:
-        """Sends a message to all listeners. A listener with `BEHIND` waiting messages is removed."""
-        for listener in list(self._listeners):
-            if listener.qsize() >= BEHIND:
-                self._listeners.discard(listener)
-                listener.put_nowait(None)
-            else:
-                listener.put_nowait(message)
+    def after(self, number: int) -> list[Event]:
+        """The stored events after the one with this number."""
+        missed = self.last - number
+        return list(self._kept)[-missed:] if missed > 0 else []
 
-    def after(self, mark: str) -> list[Event]:
-        """The stored events after the one with this mark. All of them, if this run has no event with the mark."""
+    def listen(self, mark: str = "") -> Listener:
+        """Adds a listener, which has the newest state, and the events until the one with this mark: none if this run
+        has no event with the mark."""
         run, _, number = mark.partition("-")
         known = run == self.run and number.isdecimal() and len(number) <= LONGEST_NUMBER
-        last = int(number) if known else 0
-        return [each for each in self._kept if each.number > last or last >= self._next]
-
-    def listen(self) -> Listener:
-        """Adds a listener."""
-        listener: Listener = asyncio.Queue()
+        listener = Listener(self, int(number) if known and int(number) <= self.last else 0)
         self._listeners.add(listener)
         return listener
 
     def dismiss(self) -> None:
         """Removes all listeners."""
         for listener in self._listeners:
-            listener.put_nowait(None)
+            listener.has_ended = True
         self._listeners.clear()
+        self._wake()
 
     def leave(self, listener: Listener) -> None:
         """Removes a listener."""
@@ -157,18 +214,3 @@ class EventLog:
     def listeners(self) -> int:
         """The number of listeners."""
         return len(self._listeners)
-
-
-async def heard(listener: Listener, seconds: float) -> list[Message | None]:
-    """The messages that wait for a listener, with only the newest of the states. Waits at most that long for the first
-    one, and returns an empty list if none comes."""
-    try:
-        async with asyncio.timeout(seconds):
-            messages = [await listener.get()]
-    except TimeoutError:
-        return []
-    await asyncio.sleep(BETWEEN_WRITES)
-    while not listener.empty():
-        messages.append(listener.get_nowait())
-    states = [each for each in messages if each is not None and each.name == "state"]
-    return [each for each in messages if each not in states[:-1]]

@@ -19,7 +19,7 @@ from aiohttp import HttpVersion11, web
 
 from roman_client import InDoubt, KeyTaken, NoComposition, NotAllowed, Refusal, StoreFailed
 
-from . import events, history
+from . import history
 from .access import GUESSES_A_SECOND, Access, Role, TooManyGuesses
 from .background import finished
 from .config import Page, is_loopback
@@ -34,7 +34,7 @@ from .errors import (
     UnknownState,
     system_text,
 )
-from .events import LONGEST_MARK, Listener, Message, heard
+from .events import LONGEST_MARK, Listener, Message
 from .gate import Gate
 from .home import Home
 from .limits import LONGEST_BODY, LONGEST_NAME
@@ -54,9 +54,6 @@ COOKIE = "roman_live_token"
 PAGE, LOGIN = (Path(__file__).resolve().parent / "page" / name for name in ("index.html", "login.html"))
 
 EVENT_STREAM = {"Content-Type": "text/event-stream", "Cache-Control": "no-store"}
-
-MOST_UNREAD = 16_384
-"""If more bytes wait for a listener, no more are written to it."""
 
 HEARTBEAT = 15.0
 """The seconds without a message after which a listener is sent a comment, so that a lost connection is noticed."""
@@ -264,11 +261,11 @@ class Server:
             return web.Response(headers=EVENT_STREAM)
         if self.home.events.listeners >= self._limits.listeners:
             raise web.HTTPServiceUnavailable(text=f"{self._limits.listeners} listen already")
-        listener = self.home.events.listen()
+        listener = self.home.events.listen(last)
         response = web.StreamResponse(headers=EVENT_STREAM)
         try:
             await response.prepare(request)
-            await self._send_events(request, response, listener, last)
+            await self._send_events(request, response, listener)
         except TimeoutError:  # It doesn't read.
             if request.transport is not None:
                 request.transport.abort()
@@ -278,21 +275,19 @@ class Server:
             self.home.events.leave(listener)
         return response
 
-    async def _send_events(
-        self, request: web.BaseRequest, response: web.StreamResponse, listener: Listener, last: str
-    ) -> None:
+    async def _send_events(self, request: web.BaseRequest, response: web.StreamResponse, listener: Listener) -> None:
         """Sends events to a listener until it is removed. Raises TimeoutError if it doesn't read them."""
-        messages: list[Message | None] = [self.home.events.message(each) for each in self.home.events.after(last)]
-        messages.append(Message("state", await self.home.view.state()))
+        messages = [*listener.take(), Message("state", await self.home.view.state())]
         while True:
-            data = b"".join(each.encoded for each in messages if each is not None)
+            has_ended = listener.has_ended
+            data = b"".join(each.encoded for each in messages)
             async with asyncio.timeout(self._limits.unread):
                 await response.write(data or b": still here\n\n")
-                while _unread(request) > MOST_UNREAD:
-                    await asyncio.sleep(events.BETWEEN_WRITES)
-            if None in messages:
+                while _unread(request):
+                    await listener.pause()
+            if has_ended:
                 return
-            messages = await heard(listener, HEARTBEAT)
+            messages = await listener.heard(HEARTBEAT)
 
     # Changing.
 

@@ -13,7 +13,7 @@ from roman_client import Explanation, Report, RomanError, SessionOver
 
 from .discovery import Discovery
 from .errors import TEMPORARY_ERRORS
-from .events import Message, now
+from .events import now
 from .mqtt_api import GONE
 from .opening import without_composition
 from .remedies import Remedies
@@ -181,7 +181,7 @@ class View:
             self._home.dirty.clear()
             try:
                 if self._home.events.listeners:
-                    self._home.events.send(Message("state", await self.state()))
+                    self._home.events.show(await self.state())
                 if self._home.fleet.broker is not None:
                     self._home.fleet.broker.publish_now(
                         self._home.fleet.broker.state_topic, await self._summary(), retain=True

@@ -65,7 +65,7 @@ def test_they_share_a_sync(tmp_path: Path) -> None:
             numbers = [each["id"] for each in done]
             assert numbers == list(range(numbers[0], numbers[0] + 4))
             assert commits.kinds == [(CallBegun,), *[(CallEnded, CallBegun)] * 3, (CallEnded,)]
-            texts = [each.kind for each in home.events.after("") if each.kind in ("asked", "served")]
+            texts = [each.kind for each in home.events.after(0) if each.kind in ("asked", "served")]
             assert texts == ["asked", "served"] * 4
         with open_read_only(tmp_path / "home.db") as database:
             assert database.execute("SELECT requested, result FROM calls").fetchall() == [

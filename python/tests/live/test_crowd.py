@@ -26,7 +26,7 @@ from .test_devices import CYCLE
 CROWD = os.environ.get("ROMAN_LIVE_CROWD", "")
 CONNECTIONS, LISTENERS, MESSAGES = map(int, (CROWD or "300 50 500").split())
 
-REQUESTS = 400 if CROWD else 40
+REQUESTS = 4000 if CROWD else 40
 """How many requests the pace is measured by."""
 
 MOST_MEMORY = 40_000

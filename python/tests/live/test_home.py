@@ -310,7 +310,7 @@ async def test_a_service_that_is_new_in_the_document(homes: InProcess, caplog: p
         home = await homes.begin("home", journal)
     assert len(lines(caplog)) == 1
     assert "ceiling isn't there by the store" in lines(caplog)[0]
-    assert "missing" in [each.kind for each in home.events.after("")]
+    assert "missing" in [each.kind for each in home.events.after(0)]
 
 
 async def test_each_event_is_logged(homes: InProcess, caplog: pytest.LogCaptureFixture) -> None:
@@ -563,7 +563,7 @@ async def test_one_that_cannot_tell_stays_frozen(homes: InProcess) -> None:
 
 def kinds(homes: InProcess) -> dict[str, str]:
     """The newest text of each kind of event."""
-    return {each.kind: each.text for each in homes.home.events.after("")}
+    return {each.kind: each.text for each in homes.home.events.after(0)}
 
 
 def other_program(homes: InProcess, hangs: str) -> Any:
@@ -681,8 +681,9 @@ async def test_the_state_is_told_when_it_is_there_again(away: Away, caplog: pyte
         await away.until(lambda: any("can't be had" in each for each in lines(caplog)))
     away.there()
     await away.home.requests.serve("boil")
-    while (message := await asyncio.wait_for(listener.get(), 60)) is not None:
-        if message.name == "state" and message.value["target"]["state"] == "boiled":
+    while True:
+        states = [each.value for each in await listener.heard(60) if each.name == "state"]
+        if states and states[-1]["target"]["state"] == "boiled":
             break
 
 
@@ -707,7 +708,7 @@ async def test_an_unexpected_error_ends_no_publishing(homes: InProcess, caplog: 
         home.dirty.set()
         await homes.until(lambda: "the state can't be published" in caplog.messages)
     home.dirty.set()
-    assert (await asyncio.wait_for(listener.get(), 60)) is not None
+    assert [each.name for each in await listener.heard(60)][-1:] == ["state"]
 
 
 async def test_what_comes_at_the_end_is_ignored(homes: InProcess) -> None:
@@ -745,7 +746,7 @@ async def test_one_that_does_not_tell_in_time(homes: InProcess, caplog: pytest.L
         home = await homes.begin("home")
     text = "window doesn't tell where it is: no answer within 0.1 seconds"
     assert lines(caplog) == [f"WARNING:roman_live:{text}"]
-    assert text in [each.text for each in home.events.after("")]
+    assert text in [each.text for each in home.events.after(0)]
     assert (await homes.service("window"))["last_error"] == "no answer within 0.1 seconds"
     homes.mute["window"].set()
     homes.states["window"] = "shut"

@@ -20,7 +20,7 @@ import pytest
 
 from roman_client import DeviceFailed
 from roman_client.store import Store
-from roman_live import events, fleet, http_api, limits, moves, pictures, recovery, requests
+from roman_live import events, fleet, limits, moves, pictures, recovery, requests
 from roman_live.config import Broker, HomeFile
 from roman_live.devices import Answer
 from roman_live.errors import NoSpace, TooManyRequests
@@ -267,22 +267,53 @@ async def test_what_a_listener_does_not_read_takes_little_memory(tmp_path: Path)
         (connection,) = served.server._gate._open.values()
         assert connection._transport is not None
         unread = 0
-        with mock.patch.object(events, "BETWEEN_WRITES", 0.0):
+        with mock.patch.multiple(events, BETWEEN_WRITES=0.0, EACH_LISTENER=0.0):
             for _ in range(900):
                 served.home.events.add("begun", "begun", more="x" * 10_000)
                 for _ in range(5):
                     await asyncio.sleep(0)
                 unread = max(unread, connection._transport.get_write_buffer_size())
-        assert 0 < unread < http_api.MOST_UNREAD + 20_000
+        assert 0 < unread < events.MOST_UNREAD + 20_000
         client.writer.transport.abort()
 
 
 async def test_of_states_a_listener_is_sent_the_newest() -> None:
-    listener: events.Listener = asyncio.Queue()
-    for name, value in (("state", 1), ("event", 2), ("state", 3), ("event", 4)):
-        listener.put_nowait(events.Message(name, value))
-    heard = await events.heard(listener, 1.0)
-    assert [each.value for each in heard if each is not None] == [2, 3, 4]
+    log = events.EventLog()
+    log.show(0)
+    listener = log.listen()
+    log.show(1)
+    log.add("begun", "first")
+    log.show(2)
+    assert [each.value if each.name == "state" else each.value["text"] for each in await listener.heard(1.0)] == [
+        "first",
+        2,
+    ]
+    assert await listener.heard(0.0) == []
+
+
+async def test_a_listener_that_is_behind_is_sent_the_newest_events() -> None:
+    log = events.EventLog()
+    listener = log.listen()
+    for number in range(events.KEPT + 100):
+        log.add("begun", f"event {number}")
+    sent: list[int] = []
+    while messages := listener.take():
+        assert sum(len(each.encoded) for each in messages) < events.MOST_UNREAD + 1000
+        sent += [each.value["id"] for each in messages]
+    assert sent == [*range(101, events.KEPT + 101)]
+    log.add("begun", "one more")
+    assert [each.value["text"] for each in listener.take()] == ["one more"]
+
+
+async def test_many_listeners_are_written_to_less_often() -> None:
+    log = events.EventLog()
+    listeners = [log.listen() for _ in range(2000)]
+    with mock.patch.object(asyncio, "sleep") as slept:
+        for left in (2000, 200, 1):
+            while log.listeners > left:
+                log.leave(listeners.pop())
+            await listeners[0].pause()
+    assert [each.args for each in slept.await_args_list] == [(events.LONGEST_PAUSE,), (0.8,), (events.BETWEEN_WRITES,)]
 
 
 async def test_the_head_of_events_ends(tmp_path: Path) -> None:
@@ -332,7 +363,7 @@ async def test_a_drawing_that_is_given_up_leaves_nothing_running(tmp_path: Path)
 
 def changes(home: Home) -> list[str]:
     """The events of changes."""
-    return [each.text for each in home.events.after("") if each.kind == "changed"]
+    return [each.text for each in home.events.after(0) if each.kind == "changed"]
 
 
 async def test_of_many_moves_the_newest_counts(tmp_path: Path) -> None:
@@ -465,7 +496,7 @@ async def test_too_many_requests_over_mqtt(tmp_path: Path) -> None:
                 heard["requests"](json.dumps({"id": number, "action": "sing"}).encode(), False)
         assert [(await published.get())["id"] for _ in range(5)] == list(range(5))
         assert published.empty()
-        texts = [each.text for each in served.home.events.after("") if each.kind == "wrong"]
+        texts = [each.text for each in served.home.events.after(0) if each.kind == "wrong"]
         assert texts == ["requests over MQTT are ignored: too many come"] * len(texts)
         assert len(texts) == 20
         served.home.fleet.broker = None

@@ -220,7 +220,7 @@ async def test_what_a_device_says_is_one_short_line(caplog: pytest.LogCaptureFix
     events = EventLog()
     with caplog.at_level("INFO", "roman_live"):
         events.add("wrong", text)
-    (event,) = events.after("")
+    (event,) = events.after(0)
     assert caplog.messages == [event.text] and len(event.text) <= 2000
     assert event.text == shown or len(text) > 2000
 

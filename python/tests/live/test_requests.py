@@ -259,9 +259,10 @@ def test_each_run_has_a_mark_of_its_own(tmp_path: Path) -> None:
         marks = []
         for _ in range(2):
             async with playhouse.home() as home:
-                marks.append(home.events.message(home.events.after("")[-1]).mark or "")
-                assert home.events.after(marks[-1]) == []
-                assert [each.number for each in home.events.after(marks[0])] == ([] if len(marks) == 1 else [1])
+                marks.append(home.events.message(home.events.after(0)[-1]).mark or "")
+                assert home.events.listen(marks[-1]).take() == []
+                told = [each.value["id"] for each in home.events.listen(marks[0]).take() if each.name == "event"]
+                assert told == ([] if len(marks) == 1 else [1])
         assert marks[0] != marks[1]
 
     run(test())
