@@ -596,7 +596,8 @@ class Gate:
 
     def __init__(self, folder: Path) -> None:
         self.top = folder
-        for name in (".ci/run", "tools/debian", "samples/try", "tests/run", "tests/__init__.py", "pytest.ini"):
+        names = ("tools/debian", "samples/try", "tests/run", "tests/__init__.py", "pytest.ini", "conftest.py")
+        for name in (".ci/run", *names):
             (self.top / name).parent.mkdir(exist_ok=True)
             shutil.copy(TOP / name, self.top / name)
 
