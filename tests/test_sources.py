@@ -19,6 +19,14 @@ ITEM = re.compile(r"\b(?:fn|struct|enum|trait|const|mod|type) +([A-Za-z_]\w*)")
 COMMON = re.compile(r"use Rattle\.(roman_\w+)\.proofs\.Common\.\{(.*)\}$")
 TAKEN = re.compile(r"use (\S+)\.\{(.*)\}$")
 PASSED_ON = re.compile(r"(?:unfoldable )?pub use \S+\.\{(.*)\}$")
+FUNCTION = re.compile(r"( *)(?:pub(?:\(\w+\))? )?(?:(?:const|unsafe|extern \"C\") )*fn (\w+)")
+CLAUSE = re.compile(r" *(?:requires|ensures|decreases)\b")
+
+LONG_CONTRACT = 350
+"""Nine in ten contracts have at most this many characters in their clauses."""
+
+WIDEST = 120
+"""The most columns of a line of a contract."""
 
 # What readers are sent to, and on how many definitions it rests. Of the headline it is what is promised of sessions and
 # of `synth`, the meaning of documents included.
@@ -196,6 +204,32 @@ def test_the_engine_has_one_word_for_each_thing() -> None:
 def test_a_definition_with_keeps_states_that_something_stays() -> None:
     names = {name for page in sources("specs", ".antt") for name in DEFINED.findall(page.read_text(encoding="utf-8"))}
     assert {name for name in names if re.match("Keeps([A-Z]|$)", name)} <= STAYING
+
+
+def contracts() -> Iterator[tuple[str, list[str]]]:
+    """The lines of the clauses of each function that has some, with the file and the name of the function."""
+    for file in sources("src", ".rt"):
+        lines = iter(file.read_text(encoding="utf-8").splitlines())
+        for line in lines:
+            head = FUNCTION.match(line)
+            if head and not line.endswith(("{", "}", ";")):
+                clauses: list[str] = []
+                for part in lines:
+                    if part.startswith(f"{head[1]}{{"):
+                        break
+                    if clauses or CLAUSE.match(part):
+                        clauses.append(part)
+                    if part.endswith((" {", " {}", ";")):
+                        break
+                if clauses:
+                    yield f"{file.relative_to(CRATES)}: {head[2]}", clauses
+
+
+def test_contracts_can_be_read() -> None:
+    lengths = [(name, len(" ".join(map(str.strip, clauses)))) for name, clauses in contracts()]
+    long = [(name, length) for name, length in lengths if length > LONG_CONTRACT]
+    assert len(long) <= len(lengths) // 10, long
+    assert [name for name, clauses in contracts() if any(len(line) > WIDEST for line in clauses)] == []
 
 
 def test_each_lemma_is_cited() -> None:
