@@ -8,8 +8,8 @@ import pytest
 from . import TOP
 
 CRATES = TOP / "crates"
-WITHOUT = {"roman_cli", "roman_examples"}
-"""Crates on whose contracts no other stands."""
+WITHOUT = {"roman_examples"}
+"""Crates without contracts."""
 LONGEST = 2400
 """How many characters a README may have: about a screen."""
 HEADINGS = ["What contracts see", "What is only tested", "Where to begin"]
