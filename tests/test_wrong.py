@@ -29,6 +29,8 @@ ACCEPTED = "tests/test_schema.py::test_what_the_program_accepts_the_schema_accep
 RANDOM = "tests/test_random.py::test_a_run_as_the_reference_says"
 SYNTH, CHECK, RUN_AS = (f"{RANDOM}[{kind}]" for kind in ("synth", "check", "run"))
 CORPUS = "tests/test_random.py::test_a_case_of_the_corpus"
+EXAMPLES = "tests/test_examples.py"
+AN_EXAMPLE = EXAMPLES + "::test_an_example"
 SPEED = "tests/test_speed.py"
 FAULTS = "tests/test_faults.py"
 FEW_BYTES = FAULTS + "::test_calls_that_move_few_bytes"
@@ -139,6 +141,14 @@ WRONG = [
             ACCEPTED,
             SYNTH,
             CORPUS,
+            AN_EXAMPLE,
+            f"{EXAMPLES}::test_a_cut_document_is_refused",
+            f"{EXAMPLES}::test_a_document_that_is_no_utf_8_is_refused",
+            f"{EXAMPLES}::test_guards_within_guards",
+            f"{EXAMPLES}::test_an_item_is_refused_at_each_place_of_a_list",
+            f"{EXAMPLES}::test_costs_have_limits",
+            f"{EXAMPLES}::test_as_many_values_as_there_may_be",
+            f"{EXAMPLES}::test_thirty_two_services_fail",
             OTHER_SAMPLES,
             SAMPLES,
             f"{SPEED}::test_it_ends_as_it_did",
@@ -165,6 +175,7 @@ WRONG = [
             OTHER_SAMPLES,
             SAMPLES,
             CORPUS,
+            AN_EXAMPLE,
             f"{FAULTS}::test_memory",
             FEW_BYTES,
             TRIED,
@@ -179,6 +190,7 @@ WRONG = [
             EACH_BLOCK,
             RUN_AS,
             SAMPLES,
+            AN_EXAMPLE,
             OTHER_SAMPLES,
             TRIED,
             f"{DISPATCHING}::test_services_come_back",
@@ -188,13 +200,21 @@ WRONG = [
     Wrong(
         "the first offer alone",
         f"{RUN} | sed -u -E 's/^(offer [^ :]+|offer [^ ]+: [^ ]+) .*/\\1/'{ENDED}",
-        [TABLES, EACH_BLOCK, RUN_AS, SAMPLES, f"{EVENTS}::test_a_request", f"{DISPATCHING}::test_the_least_cost"],
+        [
+            TABLES,
+            EACH_BLOCK,
+            RUN_AS,
+            SAMPLES,
+            AN_EXAMPLE,
+            f"{EVENTS}::test_a_request",
+            f"{DISPATCHING}::test_the_least_cost",
+        ],
     ),
     Wrong(
         "all services are offered",
         'names=$("@ROMAN@" synth "$2" | sed -n "s/^service \\([^ ]*\\).*/ \\1/p" | tr -d "\\n")\n'
         f'{RUN} | sed -u "s/^offer [^:]*$/offer$names/"{ENDED}',
-        [TABLES, RUN_AS, SAMPLES, OTHER_SAMPLES, f"{DISPATCHING}::test_a_failure_goes_to_another"],
+        [TABLES, RUN_AS, SAMPLES, AN_EXAMPLE, OTHER_SAMPLES, f"{DISPATCHING}::test_a_failure_goes_to_another"],
     ),
     Wrong(
         "replies only at the end",
@@ -209,12 +229,12 @@ WRONG = [
         'case $line in "pairs "*) [ -z "$jumped" ] || { echo "$start"; skips=1; } ;; esac\n'
         '[ -n "$skips" ] || echo "$line"\n'
         f'[ "$line" != end ] || skips=\ndone{ENDED}',
-        [SAMPLES, RUN_AS, STATES, TRIED],
+        [SAMPLES, RUN_AS, STATES, TRIED, AN_EXAMPLE],
     ),
     Wrong(
         "a certificate without its last line",
         f'{RUN} | if [ "$1" = certify ]; then head -n -1; else cat; fi{ENDED}',
-        [EACH_BLOCK, SYNTH],
+        [EACH_BLOCK, SYNTH, f"{EXAMPLES}::test_what_is_certified_is_accepted"],
     ),
     Wrong(
         "half of a page is lost", f"{RUN} | {{ head -c 2048; head -c 2048 >/dev/null; cat; }}{ENDED}", [LATE, RUN_AS]
@@ -222,12 +242,12 @@ WRONG = [
     Wrong(
         "the replies turned round by one",
         f"{RUN} | sed '1{{h;d}};${{p;x}}'{ENDED}",
-        [TABLES, SAMPLES, RUN_AS, EACH_BLOCK],
+        [TABLES, SAMPLES, RUN_AS, EACH_BLOCK, AN_EXAMPLE],
     ),
     Wrong(
         "kept and added are swapped",
         f"{RUN} | sed -u -E 's/^kept (.*) added (.*)/kept \\2 added \\1/'{ENDED}",
-        [TABLES, RUN_AS, SAMPLES, EACH_BLOCK, TRIED, f"{EVENTS}::test_changes"],
+        [TABLES, RUN_AS, SAMPLES, EACH_BLOCK, TRIED, AN_EXAMPLE, f"{EVENTS}::test_changes"],
     ),
     Wrong(
         "an explanation without its first line",
@@ -236,6 +256,7 @@ WRONG = [
             EACH_BLOCK,
             RUN_AS,
             TRIED,
+            AN_EXAMPLE,
             f"{EVENTS}::test_an_explanation",
             f"{DISPATCHING}::test_no_composition_has_its_explanation",
         ],
@@ -243,7 +264,7 @@ WRONG = [
     Wrong(
         "a rejected certificate is fine",
         f'{RUN}\nended=$?\n[ "$1" = check ] && exit 0\nexit $ended\n',
-        [CHECK, "tests/test_guide.py::test_the_rejections_of_certificates"],
+        [CHECK, AN_EXAMPLE, "tests/test_guide.py::test_the_rejections_of_certificates"],
     ),
     Wrong(
         "nothing on the standard error",
@@ -276,6 +297,7 @@ WRONG = [
         ends_well(5, 6),
         [
             f"{FAULTS}::test_reads",
+            AN_EXAMPLE,
             "tests/test_edges.py::test_folders_and_files_that_are_not_there",
             CLIENT + "test_session.py::test_a_document_that_is_not_there",
         ],
