@@ -1,25 +1,21 @@
 //! Faults of the shelf, of the input and of the sink.
 ghost use Rattle.std.specs.Prelude.{◌≤◌};
 
-use crate::case::{LAMP_LINES, files_of, run, text_of};
-use crate::texts::{LAMP, document};
-use roman_io::{MemShelf, MemSink, MemSource, QuietSource};
+use crate::runs::{run, shelf};
+use roman_io::{MemSink, MemSource};
 use roman_top::Status;
 use std::alloc::{AllocError, Global};
 use std::process::Abort;
 use std::test::Fail;
 
-/// The lines of the session.
-static LINES: [&str; 6] = [
-    "do on",
-    "use l1",
-    "saw on e",
-    "do off",
-    "use l1",
-    "saw off e",
-];
+/// A session over the input, and the same session over the shelf.
+const LIVE: &[&str] = &["run", "lamp.json"];
 
-/// The replies to the whole session.
+const FILED: &[&str] = &["run", "lamp.json", "session"];
+
+/// The lines of the session, and the replies to all of them.
+const LINES: &[u8] = b"do on\nuse l1\nsaw on e\ndo off\nuse l1\nsaw off e\n";
+
 const REPLIES: &[u8] = b"offer l1\nusing l1\nnow on e\noffer l1\nusing l1\nnow off e\n";
 
 /// The kind of a call that fails.
@@ -42,15 +38,6 @@ impl Fault {
             calls.push(i)?;
         }
         Ok(calls)
-    }
-
-    /// Returns the words of the run. Its session comes from the shelf if a fetch fails, and from
-    /// the input otherwise.
-    fn words(self) -> &'static [&'static str] {
-        match self {
-            Fault::Fetch => &["run", "lamp.json", "s.txt"],
-            _ => &["run", "lamp.json"],
-        }
     }
 }
 
@@ -90,86 +77,63 @@ static FETCHES: [Span; 3] = [
     (4, 5, Status::Done, 55),
 ];
 
-/// Runs the session with an input in pieces of `piece` bytes, in which call `i` of this kind fails.
-/// Asserts that it ends with this status, and that exactly the first `len` bytes of the replies are
-/// written.
-fn breaks_off(
-    rt: &(impl Abort + AllocGlobal),
+/// Runs these words with an input in pieces of `piece` bytes, in which call `i` of this kind fails.
+/// Returns the status, and the sink with what was written.
+fn with_fault(
+    alloc: Global,
+    words: &[&str],
     fault: Fault,
     i: u64,
     piece: usize,
-    status: Status,
-    len: usize,
-) -> Result<(), AllocError>
+) -> Result<(Status, MemSink), AllocError>
     requires { 1 ≤ piece }
 {
-    let alloc = rt.alloc();
-    let text = text_of(alloc, &LINES)?;
-    let mut files = files_of(alloc, &[("lamp.json", document!(LAMP))])?;
-    files.push((
-        String::from_str(alloc, "s.txt")?,
-        Vec::from_slice(alloc, &text)?,
-    ))?;
-    let mut shelf = MemShelf::new(files, Fault::Fetch.calls(alloc, fault, i)?);
-    let mut input = MemSource::new(text, piece, Fault::Take.calls(alloc, fault, i)?);
+    let mut shelf = shelf(alloc, Fault::Fetch.calls(alloc, fault, i)?)?;
+    let lines = Vec::from_slice(alloc, LINES)?;
+    let mut input = MemSource::new(lines, piece, Fault::Take.calls(alloc, fault, i)?);
     let mut out = MemSink::new(alloc, Fault::Put.calls(alloc, fault, i)?);
-    let ended = run(alloc, fault.words(), &mut shelf, &mut input, &mut out)?;
-    assert!(rt; ended == status, "call {}: status {}", i, ended.number());
-    assert!(rt; REPLIES.get(..len) == Some(out.bytes()), "call {}", i);
-    Ok(())
+    let status = run(alloc, words, &mut shelf, &mut input, &mut out)?;
+    Ok((status, out))
 }
 
-/// Asserts that the session ends early as the spans state, for each call of this kind that fails.
+/// Asserts that the session of these words ends as the spans state, for each call of this kind that
+/// fails.
 fn each_breaks_off(
     rt: &(impl Abort + AllocGlobal),
+    words: &[&str],
     fault: Fault,
     spans: &[Span],
 ) -> Result<(), Fail> {
     for (first, end, status, len) in spans {
         for i in *first..*end {
-            breaks_off(rt, fault, i, 1, *status, *len)?;
+            let (ended, out) = with_fault(rt.alloc(), words, fault, i, 1)?;
+            assert!(rt; ended == *status, "call {}: status {}", i, ended.number());
+            assert!(rt; REPLIES.get(..*len) == Some(out.bytes()), "call {}", i);
         }
     }
     Ok(())
 }
 
 #[test]
-fn each_take_fails_in_turn(rt: HostRuntime) -> Result<(), Fail> {
-    each_breaks_off(&rt, Fault::Take, &TAKES)
-}
-
-#[test]
-fn each_put_fails_in_turn(rt: HostRuntime) -> Result<(), Fail> {
-    each_breaks_off(&rt, Fault::Put, &PUTS)
-}
-
-#[test]
-fn each_fetch_fails_in_turn(rt: HostRuntime) -> Result<(), Fail> {
-    each_breaks_off(&rt, Fault::Fetch, &FETCHES)
+fn each_call_fails_in_turn(rt: HostRuntime) -> Result<(), Fail> {
+    each_breaks_off(&rt, LIVE, Fault::Take, &TAKES)?;
+    each_breaks_off(&rt, LIVE, Fault::Put, &PUTS)?;
+    each_breaks_off(&rt, FILED, Fault::Fetch, &FETCHES)
 }
 
 #[test]
 fn whole_lines_are_answered_before_a_fault(rt: HostRuntime) -> Result<(), Fail> {
-    breaks_off(&rt, Fault::Take, 2, 8, Status::ReadFault, 18)?;
+    let (status, out) = with_fault(rt.alloc(), LIVE, Fault::Take, 2, 8)?;
+    assert_eq!(rt; status, Status::ReadFault);
+    assert_eq!(rt; out.bytes(), &REPLIES[..18]);
     Ok(())
 }
 
 #[test]
 fn a_report_breaks_off_at_a_fault(rt: HostRuntime) -> Result<(), Fail> {
-    let alloc = rt.alloc();
-    let files = files_of(alloc, &[("lamp.json", document!(LAMP))])?;
-    let mut shelf = MemShelf::new(files, Vec::new(alloc));
-    let mut input = QuietSource::new(Vec::new(alloc));
-    let mut out = MemSink::new(alloc, Fault::Put.calls(alloc, Fault::Put, 0)?);
-    let status = run(
-        alloc,
-        &["synth", "lamp.json"],
-        &mut shelf,
-        &mut input,
-        &mut out,
-    )?;
-    let report = text_of(alloc, LAMP_LINES)?;
+    let (_, whole) = with_fault(rt.alloc(), &["synth", "lamp.json"], Fault::Put, 1, 1)?;
+    let (status, out) = with_fault(rt.alloc(), &["synth", "lamp.json"], Fault::Put, 0, 1)?;
     assert_eq!(rt; status, Status::WriteFault);
-    assert_eq!(rt; out.bytes(), &report[..report.len() / 2]);
+    assert_eq!(rt; out.bytes(), &whole.bytes()[..whole.bytes().len() / 2]);
     Ok(())
 }

@@ -1,27 +1,8 @@
-//! Worked examples: whole runs of the program in memory, each with its expected output and status.
+//! Runs of the one call over objects in memory: each command once, and faults of the shelf, the
+//! input and the output. `tests/examples` has the worked examples, which the built program runs.
 #![tactic(auto)]
 
 #[cfg(test)]
-mod advise;
-#[cfg(test)]
-mod case;
-#[cfg(test)]
-mod certificates;
-#[cfg(test)]
-mod depths;
-#[cfg(test)]
-mod documents;
-#[cfg(test)]
 mod faults;
 #[cfg(test)]
-mod making;
-#[cfg(test)]
-mod resilience;
-#[cfg(test)]
-mod sessions;
-#[cfg(test)]
-mod several;
-#[cfg(test)]
-mod synthesis;
-#[cfg(test)]
-mod texts;
+mod runs;

@@ -1,4 +1,4 @@
-use Rattle.roman_examples.proofs.case.run.Given as goal
+use Rattle.roman_examples.proofs.runs.run.Given as goal
 
 abbrev pub ghosts-counted : goal.ghosts-counted
 ghosts-counted g a = record { name = a.blank.name; parts = a.blank.parts }
