@@ -131,6 +131,12 @@ def test_an_example(example: Example, tmp_path: Path) -> None:
     example.check(tmp_path)
 
 
+def test_the_example_of_the_readme_is_one_of_them() -> None:
+    shown = re.findall(r"```toml\n(.*?)```", (FOLDER / "README.md").read_text(encoding="utf-8"), re.S)
+    assert len(shown) == 1
+    assert f"\n{shown[0]}\n" in (FOLDER / "sessions.toml").read_text(encoding="utf-8")
+
+
 # Documents.
 
 
