@@ -1,8 +1,8 @@
 """A client of `roman`, which composes behaviours.
 
-`Session` talks to the program over pipes: a method for each event, replies as values, refusals as
-exceptions. `Dispatcher` stands on it and runs real devices. `Document` reads system documents. The same
-calls for asyncio are in `roman_client.aio`.
+`Session` talks to the program over pipes. It has a method for each event, returns replies as values, and raises
+refusals as exceptions. `Dispatcher` uses a session to run real devices. `Document` reads system documents.
+`roman_client.aio` has the same calls for asyncio.
 """
 
 import logging

@@ -58,16 +58,16 @@ from .store import (
 LOG = logging.getLogger("roman_client.dispatcher")
 
 KEYS = 1000
-"""The most keys whose values are stored."""
+"""The maximum number of keys whose values are stored."""
 
 LONGEST_KEY = 256
-"""The most bytes of a key."""
+"""The maximum length of a key, in bytes."""
 
 BATCH = 256
-"""The most posted changes that are made before a request gets its turn, and that are written in one transaction."""
+"""The maximum number of posted changes that are made before a request, and written in one transaction."""
 
 RESTARTS = 8
-"""How often the program is restarted for one step."""
+"""The number of times that the program is restarted for one step."""
 
 
 class AnyDevice(Protocol):
@@ -237,7 +237,7 @@ class Dispatching(Generic[DeviceKind]):
     def _stored(self) -> Stored:
         """The content of a new store."""
         if self.document is None:
-            raise DocumentError("the document can't be read from here, which a store needs")
+            raise DocumentError("a store needs the document, which can't be read from here")
         failures = tuple(self._failures)
         return Stored(self.document, self.position, self.under_way, self._request, failures, dict(self.keys))
 
@@ -249,7 +249,7 @@ class Dispatching(Generic[DeviceKind]):
         self._open = None if self.under_way is None else self.under_way.request
         self._check_devices()
         yield from self._restore_surely()
-        LOG.info("%s: goes on after %s requests", store.path, self.position.served)
+        LOG.info("%s: continues after %s requests", store.path, self.position.served)
         if self.under_way is not None:
             yield from self._recover(self.under_way)
 
@@ -262,7 +262,7 @@ class Dispatching(Generic[DeviceKind]):
     def _check_devices(self) -> None:
         for name in self.position.places:
             if name not in self.devices:
-                raise ValueError(f"there is no device for the service {name}")
+                raise ValueError(f"the service {name} has no device")
 
     # Requests.
 
@@ -326,7 +326,7 @@ class Dispatching(Generic[DeviceKind]):
             raise ValueError("a key has no letter that UTF-8 can't encode")
         kept = self.keys.get(key)
         if kept is not None and (kept.action if isinstance(kept, Done) else kept.request) != action:
-            raise KeyTaken(f"the key {key} is that of another request")
+            raise KeyTaken(f"the key {key} was used for another request")
         return kept
 
     def _tell_served(self, done: Done) -> Steps[None]:
@@ -374,7 +374,7 @@ class Dispatching(Generic[DeviceKind]):
             yield from self._drop()
             raise
         except BaseException:
-            # It may be written, and the device won't be asked.
+            # The call may be on the disk, but the device isn't asked.
             self._unwritten.append(CallEnded(call.number, result_of(NOT_DONE)))
             raise
         self.under_way, self._request = call, begun.request
@@ -408,7 +408,7 @@ class Dispatching(Generic[DeviceKind]):
         try:
             yield from self._write(*entries)
         except StoreFailed as trouble:
-            LOG.warning("it is written later that %s is in doubt: %s", call.request, trouble)
+            LOG.warning("the doubt about %s is written later: %s", call.request, trouble)
         yield Notify(Failure(call.service, call.request, error, None))
 
     def _answer(self, call: Call, outcome: Outcome, ahead: Ahead | None = None) -> Steps[Done | None]:
@@ -519,7 +519,7 @@ class Dispatching(Generic[DeviceKind]):
         kept = self._look_up(action, key)
         if isinstance(kept, Done):
             if (kept.service, kept.state, kept.environment) != (service, *outcome):
-                raise KeyTaken(f"the request with the key {key} was served otherwise")
+                raise KeyTaken(f"the request with the key {key} was served with another outcome")
             return kept
         call = Call(service, self._delegated(action), action, self.position.calls + 1, key)
         self._failures = []
@@ -578,7 +578,7 @@ class Dispatching(Generic[DeviceKind]):
         """Makes a change, which is written later. Returns its value, and its notice."""
         words = event.words
         if words[0] in ("do", "use", "saw", "abort", "quit"):
-            raise ValueError(f"{words[0]} is no line to post")
+            raise ValueError(f"{words[0]} is part of a request, and can't be posted")
         value: Any
         try:
             value = yield from self._surely(event)
@@ -621,7 +621,7 @@ class Dispatching(Generic[DeviceKind]):
             except GeneratorExit:
                 raise
             except Exception as error:
-                LOG.warning("%s counts as not back: %r", service, error)
+                LOG.warning("%s is treated as not back: %r", service, error)
                 continue
             if answer is None or answer is False:
                 continue
@@ -632,7 +632,7 @@ class Dispatching(Generic[DeviceKind]):
                 place = self.position.places[service]._replace(frozen=None)
                 self.position = self.position.with_place(service, place)
             except (Refusal, TypeError, ValueError) as error:
-                LOG.warning("%s counts as not back: %r", service, error)
+                LOG.warning("%s is treated as not back: %r", service, error)
 
     # The store, and the program.
 
@@ -683,7 +683,7 @@ class Dispatching(Generic[DeviceKind]):
         """Starts another program, which continues from the position."""
         if self._store is None:
             raise over
-        LOG.warning("the program is started again: %s", over)
+        LOG.warning("the program is restarted: %s", over)
         yield from self._restore_surely()
         yield Notify(Restarted(str(over)))
 
@@ -700,7 +700,7 @@ class Dispatching(Generic[DeviceKind]):
         yield Restore(self._snapshot())
 
     def _snapshot(self) -> Snapshot:
-        """The present states of the session."""
+        """A snapshot of the session."""
         if self.document is None:
             raise DocumentError("the document can't be read from here")
         service = None if self._open is None or self.under_way is None else self.under_way.service
@@ -748,13 +748,13 @@ class Dispatching(Generic[DeviceKind]):
         return None
 
     def _told(self, call: Call, effect: Effect) -> Steps[Told]:
-        """The answer of the device, or None if it has none."""
+        """The answer of the device, None if it fails or has another form."""
         try:
             told = yield effect
         except GeneratorExit:
             raise
         except Exception as error:
-            LOG.warning("%s doesn't tell what became of %s: %r", call.service, call.request, error)
+            LOG.warning("%s can't report the result of %s: %r", call.service, call.request, error)
             return None
         if told is NOT_DONE:
             return NOT_DONE
@@ -800,7 +800,7 @@ class Dispatching(Generic[DeviceKind]):
 
 
 def _outcome(answer: Any) -> Outcome | None:
-    """The outcome that an answer is. None if it has another form."""
+    """The outcome in an answer, None if it has another form."""
     if isinstance(answer, (tuple, list)) and len(answer) == 2:
         state, environment = answer
         if isinstance(state, str) and isinstance(environment, str):

@@ -1,4 +1,4 @@
-"""Devices of services."""
+"""Devices, which carry out the actions of services."""
 
 from __future__ import annotations
 
@@ -10,11 +10,11 @@ from typing import Union
 from .errors import RomanError
 
 Outcome = tuple[str, str]
-"""The state in which a service is now, and that of the environment."""
+"""The state of a service after an action, and that of the environment."""
 
 
 class DeviceFailed(RomanError):
-    """The error of a device. Any other exception counts as one, too."""
+    """A device failed to carry out an action. Any other exception of a device has the same effect."""
 
 
 class DeviceTimeout(DeviceFailed):
@@ -22,11 +22,11 @@ class DeviceTimeout(DeviceFailed):
 
 
 class DeviceLost(DeviceFailed):
-    """The connection to a device was lost after it was asked, so that it may have done it."""
+    """The connection to a device was lost during a call. The device may have carried out the action."""
 
 
 class Verdict(enum.Enum):
-    """What became of a call that was under way when a dispatcher was killed."""
+    """The result of a call that was under way when a dispatcher was killed."""
 
     DONE = "done"
     NOT_DONE = "not done"
@@ -38,23 +38,27 @@ NOT_DONE = Verdict.NOT_DONE
 
 @dataclass(frozen=True)
 class Did:
-    """For devices that know that they did a call: their state now, and that of the environment."""
+    """The answer of a device that knows that it carried out a call. `outcome` has the present states."""
 
     outcome: Outcome
 
 
 Told = Union[Outcome, Did, Verdict, None]
-"""What a device tells of such a call: its state now and that of the environment; the same as `Did`, if it knows that
-it did the call; NOT_DONE if it didn't and never will; or None if it can't tell."""
+"""An answer of `Device.state`.
+
+A pair has the present states of the device and the environment. `Did` has the same states, and confirms that the
+device carried out the call. `NOT_DONE` means that the device didn't carry it out, and never will. None means that the
+device doesn't know.
+"""
 
 
 @dataclass(frozen=True)
 class Call:
-    """What a device is asked.
+    """A call of a device.
 
-    `action` is what it is to do, and `request` what was requested; with several targets that names a target
-    too, as `draw-beds`. `number` is one that no other call has, over all the runs of a dispatcher with a
-    store. `key` is that of the request, where it has one.
+    `action` is the action to carry out. `request` is the requested action. With several targets it also names a
+    target, as in `draw-beds`. `number` is unique over all runs of a dispatcher with a store. `key` is the key of the
+    request, None if it has none.
     """
 
     service: str
@@ -65,12 +69,12 @@ class Call:
 
 
 class Device:
-    """How a service is reached, for classes to derive from. A function does as well; `device` gives it what
-    else is said here.
+    """The base class of devices. A function can be a device, too, and `device` adds these attributes to it.
 
-    `timeout` is how many seconds it may take, None for ever. `repeatable` says that it may safely be asked
-    twice for one thing. If `late_is_doubt`, a device that is late or lost (`DeviceTimeout`, `DeviceLost`) is asked
-    by `state` whether it did the call, and no other device does it before that is known.
+    `timeout` is the number of seconds that a call may take, None for no limit. A `repeatable` device may be asked
+    twice for the same call: a call that was interrupted is made again. With `late_is_doubt`, `state` asks a device
+    that is late or lost (`DeviceTimeout`, `DeviceLost`) whether it carried out the call. No other device is asked
+    before this is known.
     """
 
     timeout: float | None = None
@@ -78,13 +82,13 @@ class Device:
     late_is_doubt: bool = False
 
     def serve(self, call: Call) -> Outcome:
-        """Carries out an action, and gives its outcome. Where it can't, it raises an exception, as
-        `DeviceFailed`, and its service keeps its state."""
+        """Carries out an action, and returns its outcome. Raises an exception, such as `DeviceFailed`, if it can't. The
+        service keeps its state then."""
         raise NotImplementedError
 
     def state(self, call: Call) -> Told:
-        """What became of a call that was under way when the dispatcher was killed: where the device is now,
-        or NOT_DONE, or None if it doesn't know."""
+        """Returns what the device knows of a call that was under way when the dispatcher was killed. With
+        `late_is_doubt` this is also called after a call that was late or lost."""
         return None
 
 
@@ -126,11 +130,11 @@ def device(
     repeatable: bool = False,
     late_is_doubt: bool = False,
 ) -> Device:
-    """A device made of a function from the requested action to its outcome, and of what `Device` has
-    besides."""
+    """Returns a device that calls `act` with the requested action. `act` returns the outcome. The other arguments are
+    those of `Device`."""
     return FunctionDevice(act, state, timeout, repeatable, late_is_doubt)
 
 
 Back = Callable[[str], Union[bool, str, None]]
-"""Whether a service that failed is back. A text is the state in which it is back; True says that it is in
-the state that it had; False and None, that it isn't back."""
+"""Returns whether a service that failed is back. A text is the state in which it is back. True means that it kept its
+state. False and None mean that it isn't back."""

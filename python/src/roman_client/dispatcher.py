@@ -31,16 +31,16 @@ LOG = logging.getLogger("roman_client.dispatcher")
 class Dispatcher:
     """Serves requests by devices.
 
-    Each request goes to an offered service that the policy chooses. A service whose device fails, doesn't
-    answer by its deadline, or gives an impossible outcome, is frozen, and the request goes to another one.
-    It is thawed when it is back. With `back` the dispatcher asks for this before each request; otherwise
-    call `thaw`. If there is no composition, `NoComposition` is raised with its explanation, and nothing
-    has moved.
+    Each request goes to an offered service that the policy chooses. If the device of this service fails, misses its
+    deadline or returns an impossible outcome, the service is frozen, and the request goes to another one. A service
+    is thawed when it is back. With `back`, the dispatcher asks for this before each request. Without it, call `thaw`.
+    If there is no composition, `request` raises `NoComposition` with an explanation, and no state changes.
 
-    With a `store` it continues from its last position after the dispatcher or the program was killed.
-    Requests and changes may come from several threads, and take turns. Changes that come while a request
-    is open are made when no device is at work for it. Make all changes by the dispatcher, and none by its
-    session.
+    With a `store`, the dispatcher continues from its last position after it or the program was killed.
+
+    Several threads can make requests and changes, which take turns. A change that is posted while a request is open
+    is made between two calls of devices, or after the request. Make all changes through the dispatcher, and none
+    through its session.
     """
 
     def __init__(
@@ -54,12 +54,15 @@ class Dispatcher:
         store: PathLike | None = None,
         watch: Watch | None = None,
     ) -> None:
-        """For a session between two requests. There is a device for each of its services.
+        """`session` has no open request, and `devices` has a device for each of its services.
 
-        `store` is the name of a database. If it exists, the session continues from it, in place of its
-        own states, and `recovered` has the result of the call that was under way. Raises `StoreLocked`
-        if another dispatcher is at work on it, and `StoreBroken` if it is that of another document.
-        `on_failure` receives each `Failure`, and `watch` each notice.
+        `store` is the path of a database. If it exists, the session continues from it, and not from its own states.
+        `recovered` then has the result of the call that was under way. `on_failure` receives each `Failure`, and
+        `watch` each notice.
+
+        Raises ValueError if a service has no device. Raises `StoreLocked` if another dispatcher uses the store,
+        `StoreBroken` if the store can't be read or belongs to another document, and `StoreFailed` if it can't be
+        written.
         """
         self.session = session
         self.policy = policy
@@ -81,7 +84,7 @@ class Dispatcher:
             self.close()
             raise
 
-    # What it knows.
+    # State.
 
     @property
     def devices(self) -> dict[str, Device]:
@@ -90,7 +93,7 @@ class Dispatcher:
 
     @property
     def failed(self) -> frozenset[str]:
-        """The services that are frozen because they failed, or were frozen when the dispatcher began."""
+        """The services that are frozen, and weren't frozen by hand."""
         return self.core.failed
 
     @property
@@ -100,35 +103,37 @@ class Dispatcher:
 
     @property
     def under_way(self) -> Call | None:
-        """The call that is under way."""
+        """The call that is under way, None if there is none."""
         return self.core.under_way
 
     @property
     def recovered(self) -> Recovery | None:
-        """What became of the call that was under way when the dispatcher was killed."""
+        """The result of the call that was under way when the dispatcher was killed, None if there was none."""
         return self.core.recovered
 
     def report(self) -> Report:
-        """The present states. It may be called while a request is open, too."""
+        """Returns the present states. It may be called while a request is open."""
         try:
             return self.session.report()
         except SessionOver:
             return self._in_turn(lambda: self.core.event(protocol.report()))
 
     def explain(self) -> Explanation:
-        """Why the present pair isn't related. Raises `Related` if it is."""
+        """Returns why the present pair isn't related. Raises `Related` if it is."""
         return self._in_turn(lambda: self.core.event(protocol.explain()))
 
     # Requests.
 
     def request(self, action: str, key: str | None = None, source: str | None = None) -> Done:
-        """Serves an action. Raises `NoComposition`, `NotAllowed` if the target doesn't allow the action here, or
-        `UnknownName` if the document doesn't have it.
+        """Serves an action.
 
-        With a `key` of its own, of at most 256 bytes, a request can be made again when the dispatcher was killed
-        meanwhile. If it was served, its `Done` is given again, and no device is asked; if that is in doubt, `InDoubt`
-        is raised, and `KeyTaken` if the key is that of another action. The last thousand keys are kept. `source` is
-        who asks, for the history.
+        Raises `NoComposition`, `NotAllowed` if the target doesn't allow the action in the present states, or
+        `UnknownName` if the document doesn't have it. Raises `InDoubt` if a device may have carried it out.
+
+        A request that has a `key` of its own can be repeated after the dispatcher was killed. If it was served, its
+        `Done` is returned again, and no device is asked. If it is in doubt, `InDoubt` is raised. `KeyTaken` is raised
+        if the key was used for another action. A key has at most 256 bytes, and the last thousand keys are stored.
+        `source` names the sender of the request for the history.
         """
         return self._in_turn(lambda: self.core.request(action, key, source))
 
@@ -141,22 +146,22 @@ class Dispatcher:
         key: str | None = None,
         source: str | None = None,
     ) -> Done:
-        """Takes a request as served, with that outcome, and asks no device: so a request that was in doubt
-        is settled if it was done. It counts once with one key."""
+        """Records that a request was served, with that outcome. No device is asked. This settles a request in doubt
+        that was carried out, once its service is thawed. A request with a key is counted once."""
         return self._in_turn(lambda: self.core.record(action, service, (state, environment), key, source))
 
     # Changes.
 
     def change(self, event: Event[Value], source: str | None = None) -> Value:
-        """Makes a change of `roman_client.protocol`, with its source for the history."""
+        """Makes a change, which is an event of `roman_client.protocol`. `source` names its sender for the history."""
         return self._in_turn(lambda: self.core.event(event, source=source))
 
     def thaw(self, service: str, state: str | None = None, source: str | None = None) -> Repair:
-        """Takes a frozen service into use again, in that state, or in the one that it had."""
+        """Takes a frozen service back into use, in the given state, or in the one that it had."""
         return self._in_turn(lambda: self.core.thaw(service, state, source))
 
     def freeze(self, service: str) -> Repair:
-        """Takes a service out of use by hand, until `thaw`; also one that is frozen since it failed."""
+        """Takes a service out of use by hand, until `thaw`. The service may be frozen already because it failed."""
         return self.change(protocol.freeze(service))
 
     def die(self, service: str) -> Repair:
@@ -177,23 +182,23 @@ class Dispatcher:
         return self._in_turn(lambda: self.core.join(service, behaviour, state, loose, as_device(device), source))
 
     def jump(self, service: str, state: str) -> None:
-        """Sets the state of a service, whatever its transitions are."""
+        """Sets the state of a service. No transition has to lead there."""
         self.change(protocol.jump(service, state))
 
     def jumpenv(self, environment: str) -> None:
-        """Sets the state of the environment, whatever its transitions are."""
+        """Sets the state of the environment. No transition has to lead there."""
         self.change(protocol.jumpenv(environment))
 
     def post(self, event: Event[Value], cause: Frozen = Frozen.BY_HAND, source: str | None = None) -> Future[Value]:
-        """Makes a change of `roman_client.protocol`, such as `jumpenv("dusk")`, without waiting for it. If a request
-        is open, the change waits for its turn. Devices and policies may call this, too. `cause` is that of a freeze."""
+        """Makes a change, such as `protocol.jumpenv("dusk")`, without waiting for an open request. The change then
+        waits for its turn. Devices and policies may call this. `cause` is the reason of a freeze."""
         future = self._posted(event, cause, source)
         if not self._is_inside():
             self._drain()
         return future
 
     def close(self) -> None:
-        """Closes the store. The session goes on."""
+        """Closes the store. The session continues."""
         if self._store is not None:
             self._store.close()
 
@@ -211,7 +216,7 @@ class Dispatcher:
     # Turns.
 
     def _in_turn(self, steps: Callable[[], Steps[Value]]) -> Value:
-        """Waits for its turn, and gives the value of the steps."""
+        """Waits for a turn, and returns the value of the steps."""
         if self._is_inside():
             raise InsideRequest("the request of this device or policy is open: call post")
         try:
@@ -250,17 +255,17 @@ class Dispatcher:
         return getattr(self._inside, "here", False)
 
     def _within(self, call: Callable[[], Value]) -> Value:
-        """Calls what is the owner's, which can't wait for its own request."""
+        """Calls a device, a policy or a listener. Such a call can't make a request itself."""
         self._inside.here = True
         try:
             return call()
         finally:
             self._inside.here = False
 
-    # Its steps.
+    # Steps.
 
     def _perform(self, effect: Effect) -> Any:
-        """Carries out one step of the dispatcher."""
+        """Performs one effect."""
         return self._performers[type(effect)](self, effect)
 
     def _tell(self, effect: Tell[Any]) -> Any:
@@ -316,8 +321,8 @@ class Dispatcher:
     }
 
     def _by(self, effect: Effect, service: str, call: Callable[[], Value]) -> Value:
-        """Calls a device for an effect, and waits until its deadline. One that was late isn't called for the same
-        before it has come to its end, so that no threads pile up."""
+        """Calls a device for an effect, and waits until its deadline. While a late call still runs, the device isn't
+        called for an effect of this kind, so that threads don't pile up."""
         timeout = self.core.devices[service].timeout
         if timeout is None:
             return self._within(call)
@@ -346,10 +351,10 @@ class Dispatcher:
 
 
 def _nothing() -> Steps[None]:
-    """No steps of its own."""
+    """Takes no steps."""
     yield from ()
 
 
 def as_device(given: Device | Act) -> Device:
-    """A device, where a function is given as one."""
+    """Returns the device itself, or a device that calls the function."""
     return given if isinstance(given, Device) else FunctionDevice(given, None, None, False)

@@ -21,23 +21,23 @@ from .replies import Service
 PathLike = Union[str, "os.PathLike[str]"]
 
 Guard = Any
-"""A guard as it stands in a document."""
+"""A guard, as a document has it."""
 
 LONGEST_DOCUMENT = 1_048_576
-"""The most bytes that a document, or a part file, may have."""
+"""The maximum length of a document or a part file, in bytes."""
 
 MOST_STATES = 64
-"""The most states that a target may have, or all of several targets together."""
+"""The maximum number of states of a target. For several targets it limits the number of their combined states."""
 
 DEEPEST = 127
-"""The most lists and objects that may stand within each other in a file."""
+"""The maximum nesting of lists and objects in a file."""
 
 DEEPEST_WHOLE = DEEPEST + 2
-"""The same with the parts in place: a behaviour from a file stands within a list and an object."""
+"""The maximum nesting in a document with its parts in place: a behaviour from a file is within a list and an object."""
 
 
 class DocumentError(RomanError, ValueError):
-    """A document can't be read or written, or isn't of the form of one."""
+    """A document can't be read or written, or doesn't have the form of one."""
 
 
 class ShortForm(DocumentError):
@@ -46,7 +46,7 @@ class ShortForm(DocumentError):
 
 @dataclass(frozen=True)
 class Step:
-    """A transition of a behaviour or a target. `source` is the list that stands in the document."""
+    """A transition of a behaviour or a target. `source` is its list in the document."""
 
     state: str
     guard: Guard
@@ -56,7 +56,7 @@ class Step:
 
 
 class Request(NamedTuple):
-    """What a request means: the place of its target, and the action that a service is asked for."""
+    """A request: the index of its target, and the action that a service is asked for."""
 
     target: int
     action: str
@@ -64,7 +64,7 @@ class Request(NamedTuple):
 
 @dataclass(frozen=True)
 class EnvironmentStep:
-    """A transition of the environment. `source` is the list that stands in the document."""
+    """A transition of the environment. `source` is its list in the document."""
 
     state: str
     action: str
@@ -74,7 +74,7 @@ class EnvironmentStep:
 
 @dataclass(frozen=True)
 class Environment:
-    """The machine that all share."""
+    """The environment, a machine that the target and all services share."""
 
     states: tuple[str, ...]
     start: str
@@ -82,12 +82,12 @@ class Environment:
     steps: tuple[EnvironmentStep, ...]
 
     def after(self, state: str, action: str) -> tuple[str, ...]:
-        """The states to which an action may lead from that one, each once."""
+        """The states to which an action may lead from a state, without duplicates."""
         found = (step.to for step in self.steps if step.state == state and step.action == action)
         return tuple(dict.fromkeys(found))
 
     def before(self, action: str) -> frozenset[str]:
-        """The states in which an action may be carried out."""
+        """The states in which an action is possible."""
         return frozenset(step.state for step in self.steps if step.action == action)
 
     def states_in(self, guard: Guard) -> frozenset[str]:
@@ -106,8 +106,7 @@ class Machine:
     steps: tuple[Step, ...]
 
     def after(self, state: str, environment: str, action: str) -> tuple[str, ...]:
-        """The states to which an action may lead from that one, in that state of the environment, each
-        once."""
+        """The states to which an action may lead from a state, in a state of the environment, without duplicates."""
         found = (
             step.to
             for step in self.steps
@@ -135,12 +134,12 @@ class States(Protocol):
 class Document:
     """A system document with its parts in place.
 
-    `value` is the document as JSON, `version` the number of its version. `services` are those that it
-    begins with, `behaviours` the catalogue by name, and `targets` its one target, or its two to four.
+    `value` is the document as JSON, and `version` the number of its version. `services` are the services at the start.
+    `behaviours` is the catalogue by name. `targets` has the one target, or the two to four targets.
     """
 
     def __init__(self, value: Any) -> None:
-        """From JSON with no parts by file. Raises DocumentError if it doesn't have the form of a document."""
+        """`value` is JSON without parts in files. Raises DocumentError if it doesn't have the form of a document."""
         try:
             self._take(value)
         except (AttributeError, IndexError, KeyError, TypeError, ValueError) as error:
@@ -151,7 +150,7 @@ class Document:
         self.value: dict[str, Any] = value
         self.version: int = value["roman"]
         if type(self.version) is not int or not 1 <= self.version <= 3:
-            raise ValueError(f"{self.version!r} is no version")
+            raise ValueError(f"{self.version!r} isn't a version")
         self.environment = _environment(value["environment"])
         machines = [_machine(each, text(each["name"])) for each in listed(value["behaviours"])]
         self.behaviours: Mapping[str, Machine] = {each.name: each for each in machines}
@@ -175,7 +174,7 @@ class Document:
         )
 
     def _combined_states(self) -> Mapping[str, tuple[str, ...]]:
-        """The states of all targets, by the text that stands for them."""
+        """The states of all targets, by the name of their combination."""
         count = math.prod(len(target.states) for target in self.targets)
         if count > MOST_STATES:
             raise ValueError(f"the targets have {count} states together, more than {MOST_STATES}")
@@ -183,7 +182,7 @@ class Document:
         return {"-".join(each): each for each in states}
 
     def _all_requests(self) -> Mapping[str, Request]:
-        """The actions that may be requested, each with its target's place and what a service is asked."""
+        """The actions that may be requested, each with its request."""
         actions = self.environment.actions
         if len(self.targets) == 1:
             return {action: Request(0, action) for action in actions}
@@ -200,12 +199,12 @@ class Document:
 
     @classmethod
     def load(cls, path: PathLike, folder: PathLike | None = None) -> Document:
-        """Reads a document with its part files. `folder` is where both names count from, as they do for
-        the program that runs there; the working folder, where it is None. Raises DocumentError."""
+        """Reads a document with its part files. All names are relative to `folder`, as they are for a program that runs
+        there. If it is None, they are relative to the working folder. Raises DocumentError."""
         top = Path() if folder is None else Path(folder)
         value = _read_part(top / path)
         if not isinstance(value, dict):
-            raise DocumentError(f"{os.fspath(path)} is no object")
+            raise DocumentError(f"{os.fspath(path)} isn't an object")
         if value.get("roman") == "short":
             name = os.fspath(path)
             raise ShortForm(f"{name} is in the short form; roman-expand {name} -o plain.json writes the plain one")
@@ -221,42 +220,42 @@ class Document:
 
     @property
     def start(self) -> str:
-        """The state in which the target begins."""
+        """The starting state of the target."""
         return "-".join(target.start for target in self.targets)
 
     @property
     def actions(self) -> tuple[str, ...]:
-        """The actions that may be requested, in the order of a report: of one target, those of the
-        environment; of several, those that name a target."""
+        """The actions that may be requested, in the order of a report. A single target has the actions of the
+        environment. With several targets each action names its target."""
         return tuple(self._requests)
 
     def target_states(self, state: str) -> tuple[str, ...]:
-        """The states of all targets that one text stands for, as `bright-watering` does. Raises
-        DocumentError if it stands for none."""
+        """The states of all targets in a combined state, such as `bright-watering`. Raises DocumentError if there is
+        no such state."""
         if state not in self._combined:
-            raise DocumentError(f"{state} is no state of the target")
+            raise DocumentError(f"{state} isn't a state of the target")
         return self._combined[state]
 
     def delegated(self, action: str) -> str:
-        """The action that a service is asked for at a request: for `draw-beds` it is `draw`, where there
-        are several targets. Raises DocumentError if there is no such request."""
+        """The action that a service is asked for at a request. With several targets, this is `draw` for `draw-beds`.
+        Raises DocumentError if there is no such request."""
         return self._request(action).action
 
     def _request(self, action: str) -> Request:
         if action not in self._requests:
-            raise DocumentError(f"{action} is no action that may be requested")
+            raise DocumentError(f"{action} isn't an action that may be requested")
         return self._requests[action]
 
     def target_after(self, state: str, environment: str, action: str) -> str | None:
-        """The target's state after a request, or None if the target doesn't allow it there. (The
-        environment may still lack the action there; see `allowed`.)"""
+        """The target's state after a request, or None if the target doesn't allow it there. The environment may still
+        lack the action there; see `allowed`."""
         states = self.target_states(state)
         seat, plain = self._request(action)
         found = self.targets[seat].after(states[seat], environment, plain)
         return "-".join((*states[:seat], found[0], *states[seat + 1 :])) if found else None
 
     def allowed(self, state: str, environment: str) -> tuple[str, ...]:
-        """The actions that the target allows in these states of target and environment."""
+        """The actions that the target and the environment allow in these states of theirs."""
         return tuple(
             action
             for action in self.actions
@@ -265,19 +264,19 @@ class Document:
         )
 
     def is_final(self, state: str) -> bool:
-        """Whether the target may be left in that state."""
+        """Whether a state of the target is final."""
         states = self.target_states(state)
         return all(each in target.final for each, target in zip(states, self.targets))
 
     def outcomes(self, behaviour: str, state: str, environment: str, action: str) -> Iterator[tuple[str, str]]:
-        """What may come of a request that is delegated to a service in that state, in that state of the
-        environment: its states afterwards with those of the environment."""
+        """The possible outcomes of a request that is delegated to a service of a behaviour, in these states of the
+        service and the environment."""
         plain = self.delegated(action)
         machine = self.behaviours[behaviour]
         return itertools.product(machine.after(state, environment, plain), self.environment.after(environment, plain))
 
     def has_same_machines(self, other: Document) -> bool:
-        """Whether both have the same environment, catalogue and targets, wherever they start."""
+        """Whether both documents have the same environment, catalogue and targets, apart from the starting states."""
 
         def machines(document: Document) -> list[Any]:
             environment = document.environment
@@ -294,8 +293,8 @@ class Document:
     # Other starting states, and writing.
 
     def with_states(self, report: States) -> Document:
-        """The document whose starting states are those of a report of a session that began with this one:
-        its services are those that are present, with their states, frozen and loose as they are."""
+        """Returns a document whose starting states and services are those of a report. Services that are frozen or
+        loose stay so. The report belongs to a session that began with this document."""
         value = dict(self.value)
         if value["roman"] == 1 and any(service.loose for service in report.services):
             value["roman"] = 2
@@ -311,7 +310,7 @@ class Document:
         return Document(value)
 
     def text(self) -> str:
-        """The document in one text, without a newline at its end."""
+        """The document as one line of JSON, without a newline at its end."""
         return _text_of(self.value)
 
     def write(self, path: PathLike) -> None:
@@ -334,7 +333,7 @@ class Document:
 
 
 def holds(guard: Guard, state: str) -> bool:
-    """Whether a guard holds in that state of the environment."""
+    """Whether a guard holds in a state of the environment."""
     if isinstance(guard, bool):
         return guard
     if isinstance(guard, list):
@@ -346,7 +345,7 @@ def holds(guard: Guard, state: str) -> bool:
 
 
 def read_json(path: PathLike) -> Any:
-    """The JSON in a file. Raises DocumentError, with the name of the file."""
+    """Reads the JSON in a file. Raises DocumentError, which names the file."""
     try:
         data = Path(path).read_bytes()
         if len(data) > LONGEST_DOCUMENT:
@@ -359,7 +358,7 @@ def read_json(path: PathLike) -> Any:
 
 
 def _read_part(path: Path) -> Any:
-    """The JSON in a file of a document. Raises DocumentError."""
+    """Reads the JSON in a file of a document. Raises DocumentError."""
     value = read_json(path)
     try:
         check_nesting(value, DEEPEST)
@@ -369,13 +368,13 @@ def _read_part(path: Path) -> Any:
 
 
 def check_nesting(value: Any, most: int) -> None:
-    """Raises ValueError if more lists and objects stand within each other."""
+    """Raises ValueError if lists and objects are nested deeper than `most`."""
     if nesting(value) > most:
-        raise ValueError(f"more than {most} lists and objects stand within each other")
+        raise ValueError(f"more than {most} lists and objects are nested")
 
 
 def nesting(value: Any) -> int:
-    """How many lists and objects stand within each other at most."""
+    """The greatest nesting of lists and objects."""
     depth, level = 0, [value]
     while True:
         level = [each for each in level if isinstance(each, (list, dict))]
@@ -386,37 +385,37 @@ def nesting(value: Any) -> int:
 
 
 def text(value: Any) -> str:
-    """The value, which has to be a text."""
+    """Returns the value. Raises TypeError unless it is a text."""
     if not isinstance(value, str):
-        raise TypeError(f"{value!r} is no text")
+        raise TypeError(f"{value!r} isn't a text")
     return value
 
 
 def flag(value: Any) -> bool:
-    """The value, which has to be true or false."""
+    """Returns the value. Raises TypeError unless it is true or false."""
     if not isinstance(value, bool):
         raise TypeError(f"{value!r} is neither true nor false")
     return value
 
 
 def listed(value: Any) -> list[Any]:
-    """The value, which has to be a list."""
+    """Returns the value. Raises TypeError unless it is a list."""
     if not isinstance(value, list):
-        raise TypeError(f"{value!r} is no list")
+        raise TypeError(f"{value!r} isn't a list")
     return value
 
 
 def texts(value: Any) -> tuple[str, ...]:
-    """The value, which has to be a list of texts."""
+    """Returns the value as a tuple. Raises TypeError unless it is a list of texts."""
     return tuple(text(each) for each in listed(value))
 
 
 def _no_number(word: str) -> Any:
-    raise ValueError(f"{word} is no JSON")
+    raise ValueError(f"{word} isn't JSON")
 
 
 def _in_place(value: Mapping[str, Any], folder: Path) -> Iterator[tuple[str, Any]]:
-    """The members of a document, with parts in the place of the names of their files."""
+    """The members of a document, with the parts in place of the names of their files."""
     for name, member in value.items():
         if name in ("environment", "target"):
             yield name, _part(member, folder)
@@ -427,12 +426,12 @@ def _in_place(value: Mapping[str, Any], folder: Path) -> Iterator[tuple[str, Any
 
 
 def _part(value: Any, folder: Path) -> Any:
-    """A part, from its file if it is given by one."""
+    """A part, which is read if it names a file."""
     if not isinstance(value, dict) or "file" not in value:
         return value
     part = _read_part(folder / text(value["file"]))
     if isinstance(part, dict):
-        part.pop("file", None)  # It names no file there, and would in the place of the part.
+        part.pop("file", None)  # Within a part file it has no meaning, but in the document it names a file.
     return part
 
 
@@ -466,13 +465,13 @@ def _check_guard(guard: Any) -> None:
         return
     ((word, inner),) = guard.items()
     if word not in ("not", "all", "any"):
-        raise ValueError(f"{word!r} is no word of a guard")
+        raise ValueError(f"{word!r} isn't an operator of guards")
     for each in [inner] if word == "not" else listed(inner):
         _check_guard(each)
 
 
 def _unguarded(steps: Sequence[Step]) -> frozenset[tuple[str, str, str, str]]:
-    """Steps as a set, with each guard as its text."""
+    """Steps as a set, with each guard as a text."""
     return frozenset((step.state, json.dumps(step.guard, sort_keys=True), step.action, step.to) for step in steps)
 
 
@@ -480,7 +479,7 @@ SERVICE_MEMBERS = ("name", "behaviour", "state", "frozen", "rests")
 
 
 def _entry(service: Service, before: Mapping[str, Any]) -> dict[str, Any]:
-    """A service as it stands in a document, with what else stood there before."""
+    """The entry of a service in a document, with the other members of its former entry."""
     entry: dict[str, Any] = {
         "name": service.name,
         "behaviour": service.behaviour,
@@ -495,7 +494,7 @@ def _entry(service: Service, before: Mapping[str, Any]) -> dict[str, Any]:
 
 
 def _moved(part: Any, document: Path, name: str) -> dict[str, str]:
-    """Writes a part into a file beside its document, and gives what stands in its place."""
+    """Writes a part to a file beside its document, and returns the object that names the file."""
     file = document.with_name(f"{document.name}.{name}.json")
     whole = _text_of(part)
     if len(whole.encode()) > LONGEST_DOCUMENT:

@@ -1,4 +1,4 @@
-"""Errors of the client: refusals, a program that ended, and the store."""
+"""Errors of the client: refusals, the end of the program, and errors of the store."""
 
 from __future__ import annotations
 
@@ -15,13 +15,15 @@ class RomanError(Exception):
 
 
 class NotBegun(RomanError):
-    """A call to a session that wasn't begun."""
+    """A session or a dispatcher was called before it began."""
 
 
 class SessionOver(RomanError):
-    """The session is over. Where a dispatcher had a request open, `action` is what was requested, `service`
-    the one that it was given to, and `outcome` what that answered; each is None where it didn't come so
-    far."""
+    """The session is over.
+
+    If a dispatcher had a request open, `action` is the requested action, `service` is the service that was chosen, and
+    `outcome` is the answer of its device. Each is None if the request didn't come so far.
+    """
 
     action: str | None = None
     service: str | None = None
@@ -31,9 +33,8 @@ class SessionOver(RomanError):
 class ProgramEnded(SessionOver):
     """The program has ended.
 
-    `status` is its exit status, or the negative number of the signal that ended it. `output` has the
-    lines that it wrote and nobody asked for, as `refused ..` for a document, and `errors` the last lines
-    of its standard error.
+    `status` is its exit status, or the negative number of the signal that ended it. `output` has lines that it wrote
+    in place of a reply, such as `refused ..` for a document. `errors` has the last lines of its standard error.
     """
 
     def __init__(self, status: int, output: Sequence[str], errors: Sequence[str]) -> None:
@@ -44,16 +45,16 @@ class ProgramEnded(SessionOver):
         super().__init__(f"the program ended with status {status}" + (f": {said}" if said else ""))
 
     def again(self) -> ProgramEnded:
-        """The error for a later call."""
+        """Returns the error for a later call."""
         return ProgramEnded(self.status, self.output, self.errors)
 
 
 class NoReply(SessionOver):
-    """The reply wasn't whole within the session's timeout. The program was ended."""
+    """The reply wasn't complete within the session's timeout. The client ended the program."""
 
 
 class UnexpectedReply(SessionOver):
-    """The reply to a line isn't one that this client knows. The program was ended."""
+    """This client doesn't know the reply to a line. The client ended the program."""
 
     def __init__(self, line: str, reply: str) -> None:
         self.line = line
@@ -62,7 +63,7 @@ class UnexpectedReply(SessionOver):
 
 
 class Refusal(RomanError):
-    """A line was refused, and changed nothing. `line` is what was sent, and `reply` the answer."""
+    """The program refused a line, which changed nothing. `line` is the line that was sent."""
 
     def __init__(self, line: str, reply: str) -> None:
         self.line = line
@@ -71,12 +72,12 @@ class Refusal(RomanError):
 
 
 class BadLine(Refusal):
-    """`error line`: the program knows no such line, or it is too long."""
+    """`error line`: the program doesn't know the line, or the line is too long."""
 
 
 class UnknownName(Refusal):
-    """`error name`: a word names no action, service, behaviour or state, or is no name for a service that
-    joins."""
+    """`error name`: a word names an action, service, behaviour or state that doesn't exist, or isn't a valid name for a
+    service that joins."""
 
 
 class Busy(Refusal):
@@ -84,14 +85,14 @@ class Busy(Refusal):
 
 
 class Idle(Refusal):
-    """`error idle`: no request waits for this."""
+    """`error idle`: no open request expects this event."""
 
 
 class NoComposition(Refusal):
-    """`no composition`: from here no way of delegating can promise to go on.
+    """`no composition`: there is no composition from the present states.
 
-    A dispatcher fills in the `explanation`, the services that failed at this request (`failures`), and the
-    names of all that are `frozen`. For a session the explanation is None, and `Session.explain` gives it.
+    A dispatcher sets the `explanation`, the `failures` of this request, and the names of the services that are
+    `frozen`. A session leaves the explanation None, and `Session.explain` returns it.
     """
 
     def __init__(self, line: str, reply: str, explanation: Explanation | None = None) -> None:
@@ -106,15 +107,15 @@ class NotAllowed(Refusal):
 
 
 class NotOffered(Refusal):
-    """`not offered`: the service is there, and isn't one of those offered."""
+    """`not offered`: the service is present, but isn't offered for this request."""
 
 
 class Impossible(Refusal):
-    """`impossible`: no transitions lead there."""
+    """`impossible`: no transitions lead to these states."""
 
 
 class AlreadyFrozen(Refusal):
-    """`error frozen`: the service is frozen already."""
+    """`error frozen`: the service is already frozen."""
 
 
 class NotFrozen(Refusal):
@@ -122,11 +123,11 @@ class NotFrozen(Refusal):
 
 
 class NameTaken(Refusal):
-    """`error taken`: a service with this name is present."""
+    """`error taken`: a service with this name is already present."""
 
 
 class Full(Refusal):
-    """`error full`: the number of services is at its limit."""
+    """`error full`: there are already as many services as the program allows."""
 
 
 class OverLimit(Refusal):
@@ -134,7 +135,7 @@ class OverLimit(Refusal):
 
 
 class Related(Refusal):
-    """`error related`: there is a composition from here, so nothing is to be explained."""
+    """`error related`: there is a composition from the present states, and nothing to explain."""
 
 
 REFUSALS: dict[str, type[Refusal]] = {
@@ -157,35 +158,35 @@ REFUSALS: dict[str, type[Refusal]] = {
 
 
 class InDoubt(RomanError):
-    """The request with this key was under way when the dispatcher was killed, and may have been served."""
+    """A request may have been served: its call was interrupted, or its device was late or lost, and the device can't
+    report the result."""
 
 
 class KeyTaken(RomanError):
-    """The key of a request is that of another one."""
+    """The key of a request was used for another one."""
 
 
 class InsideRequest(RomanError):
-    """A call from inside of a device or a policy that would wait for the request that it is part of. `post`
-    is for that."""
+    """A device, a policy or a listener made a call that would wait for its own request. Call `post` instead."""
 
 
 class StoreError(RomanError):
-    """An error of the store of a dispatcher."""
+    """The base class of errors of a dispatcher's store."""
 
 
 class StoreLocked(StoreError):
-    """Another dispatcher is at work on that store."""
+    """Another dispatcher uses the store."""
 
 
 class StoreBroken(StoreError):
-    """The store can't be read, or isn't one for this document."""
+    """The store can't be read, or belongs to another document."""
 
 
 class StoreFailed(StoreError):
-    """The store couldn't be written, as on a full disk.
+    """The store couldn't be written, for example because the disk is full.
 
-    No device is asked until it can be. Where a device had been asked before, what came of it is kept, and is
-    written with what comes next; `done` is set where it was that a request was served.
+    No device is asked until it can be written. The result of a device that was asked before is kept, and written
+    later. If that result is that a request was served, `done` is set.
     """
 
     done: Done | None = None

@@ -1,4 +1,4 @@
-"""A session within this process, by libroman, in the place of a running program behind two pipes."""
+"""Sessions within this process, by libroman, in place of a program behind two pipes."""
 
 from __future__ import annotations
 
@@ -15,25 +15,25 @@ from .errors import ProgramEnded
 from .protocol import Exchange, Start
 
 Library = Union[bool, PathLike]
-"""True for the installed library, or the path of a shared library."""
+"""True for the installed library, or the path of a shared library. False is for a session by the program."""
 
 NAME = "libroman.so.1"
 UNLIMITED = 1 << 62
-"""How many bytes of lines a session takes."""
+"""The number of bytes of lines that a session of the library accepts: its sessions never have to be renewed."""
 
 CLOSED, MISSING, MEMORY, QUIT = 2, 5, 9, 1
-"""Statuses of roman.h that aren't those of the program, or that end a session."""
+"""Statuses of `roman.h`."""
 
 
 class Handle(ctypes.Structure):
-    """A shelf or a session of the library. It begins empty."""
+    """A handle of a shelf or a session of the library. It begins empty."""
 
     _fields_ = [("at", ctypes.c_void_p), ("full", ctypes.c_bool)]
 
 
 @lru_cache(maxsize=None)
 def load_library(path: str) -> ctypes.CDLL:
-    """The library at that path. Raises OSError if it can't be loaded."""
+    """Loads the library at a path. Raises OSError if it can't be loaded."""
     library = ctypes.CDLL(path)
     handle = ctypes.POINTER(Handle)
     text = [ctypes.c_char_p, ctypes.c_size_t]
@@ -50,7 +50,7 @@ def load_library(path: str) -> ctypes.CDLL:
 
 
 def part_names(text: bytes) -> Iterator[str]:
-    """The names of the part files in a document, as far as it is one."""
+    """The names of the part files in a document, which may be invalid."""
     try:
         document = json.loads(text)
     except (ValueError, RecursionError):
@@ -63,7 +63,8 @@ def part_names(text: bytes) -> Iterator[str]:
 
 
 def put_system(library: ctypes.CDLL, shelf: Handle, system: str, folder: Path, errors: list[str]) -> None:
-    """Puts the document and its part files on the shelf. One that can't be read is left out."""
+    """Puts a document and its part files on the shelf. Files that can't be read are left out, and reported in
+    `errors`."""
     text = put_file(library, shelf, system, folder, errors)
     for name in dict.fromkeys(part_names(text)):
         if name != system:
@@ -71,7 +72,7 @@ def put_system(library: ctypes.CDLL, shelf: Handle, system: str, folder: Path, e
 
 
 def put_file(library: ctypes.CDLL, shelf: Handle, name: str, folder: Path, errors: list[str]) -> bytes:
-    """Puts a file on the shelf, unless it can't be read. Returns its content."""
+    """Puts a file on the shelf, if it can be read. Returns its content."""
     try:
         text = (folder / name).read_bytes()
     except (OSError, ValueError) as error:
@@ -82,7 +83,7 @@ def put_file(library: ctypes.CDLL, shelf: Handle, name: str, folder: Path, error
 
 
 def synth(system: PathLike, library: Library = True, folder: PathLike | None = None) -> tuple[int, str]:
-    """Returns the status and the text of `roman synth`, without a process. `folder` is where names count from; the
+    """Returns the status and the output of `roman synth`, without a process. Names are relative to `folder`, or to the
     working folder if it is None."""
     return _work(library, folder, [os.fspath(system)])
 
@@ -90,7 +91,7 @@ def synth(system: PathLike, library: Library = True, folder: PathLike | None = N
 def check(
     system: PathLike, certificate: PathLike, library: Library = True, folder: PathLike | None = None
 ) -> tuple[int, str]:
-    """Returns the status and the text of `roman check`, without a process."""
+    """Returns the status and the output of `roman check`, without a process. Names are as for `synth`."""
     return _work(library, folder, [os.fspath(system), os.fspath(certificate)])
 
 
@@ -115,7 +116,7 @@ def _work(library: Library, folder: PathLike | None, names: list[str]) -> tuple[
 
 
 class InProcess:
-    """A session of the library, with the calls of `Pipes`. A crash of this process takes it along."""
+    """A session of the library, with the methods of `Pipes`. It ends with this process."""
 
     def __init__(self, start: Start, library: Library) -> None:
         self._ended: ProgramEnded | None = None
@@ -151,18 +152,18 @@ class InProcess:
         return lines
 
     def poll(self) -> int | None:
-        """The status of the program that would have ended as this session did, or None while it goes on."""
+        """The status with which the program would have ended, or None while the session is open."""
         return None if self._ended is None else self._ended.status
 
     def interrupt(self) -> None:
         """Does nothing: an answer of the library can't be interrupted."""
 
     def close(self) -> int:
-        """Ends the session, and returns the program's status."""
+        """Ends the session, and returns the status with which the program would have ended."""
         return self._close(0)
 
     def stop(self) -> int:
-        """Ends the session, and returns the program's status."""
+        """Does the same as `close`."""
         return self._close(0)
 
     def _open(self, system: str, folder: Path) -> None:

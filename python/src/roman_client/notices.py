@@ -11,8 +11,8 @@ from .devices import Call, Verdict
 
 @dataclass(frozen=True)
 class Failure:
-    """A service failed at a request, and was frozen for it. Either its device raised `error`, or it gave an
-    `outcome` that its behaviour doesn't have there."""
+    """A service failed at a request, and was frozen. Either its device raised `error`, or its `outcome` was
+    impossible."""
 
     service: str
     action: str
@@ -21,7 +21,7 @@ class Failure:
 
     @property
     def text(self) -> str:
-        """How it failed, in words."""
+        """A description of the failure."""
         if self.error is not None:
             return str(self.error) or type(self.error).__name__
         words = self.outcome if isinstance(self.outcome, (tuple, list)) else (repr(self.outcome),)
@@ -30,8 +30,7 @@ class Failure:
 
 @dataclass(frozen=True)
 class Done:
-    """A request was served: by which service, the states in which it is now, and the services that failed
-    at it before."""
+    """A request was served: the service, the states after it, and the services that failed at it before."""
 
     action: str
     service: str
@@ -43,23 +42,26 @@ class Done:
 
 @dataclass(frozen=True)
 class Asked:
-    """A device is asked."""
+    """A device is about to be asked."""
 
     call: Call
 
 
 @dataclass(frozen=True)
 class Changed:
-    """A change was made between two requests: the words of its line, as `("freeze", "window")`."""
+    """A change was made. `words` are the words of its line, such as `("freeze", "window")`."""
 
     words: tuple[str, ...]
 
 
 @dataclass(frozen=True)
 class Recovery:
-    """What became of the call that was under way when the dispatcher was killed. It is `done` where that
-    could be found out. Where it wasn't done nothing has moved, and the request can be made again. Where it
-    is in doubt its service is frozen; `Dispatcher.record` says that it was done after all."""
+    """The result of the call that was under way when the dispatcher was killed.
+
+    If the call was carried out, `done` has the states after it. If it wasn't, no state has changed, and the request can
+    be made again. If it is in doubt, its service is frozen. If it turns out to have been carried out, thaw the service,
+    and call `Dispatcher.record`.
+    """
 
     call: Call
     verdict: Verdict
@@ -68,8 +70,8 @@ class Recovery:
 
 @dataclass(frozen=True)
 class Restarted:
-    """The program had ended, and another one went on from the store. What happened just before may not have been
-    told; a report tells where all are now."""
+    """The program ended, or a request was interrupted, and another program continued from the store. Notices of changes
+    just before may be missing. A report has the present states."""
 
     why: str
 

@@ -1,4 +1,4 @@
-"""A running program behind two pipes, for callers that wait."""
+"""A running program behind two pipes, for callers that block."""
 
 from __future__ import annotations
 
@@ -14,7 +14,7 @@ from .protocol import Exchange, Start, is_farewell
 
 
 class Pipes:
-    """A program that was started. No call waits for one that has died."""
+    """A program that was started. If it has died, no call waits for it."""
 
     def __init__(self, start: Start, timeout: float | None) -> None:
         self._timeout = timeout
@@ -50,8 +50,8 @@ class Pipes:
         return self.process.poll()
 
     def exchange(self, exchange: Exchange) -> list[str]:
-        """Sends a line, and reads its whole reply. The program is ended where that fails, since a reply
-        that was half read can't be told from the next one."""
+        """Sends a line, and reads its whole reply. If this fails, the program is ended: the rest of its reply would be
+        taken for the next one."""
         if self._ended is not None:
             raise self._ended.again()
         self._until = None if self._timeout is None else time.monotonic() + self._timeout
@@ -87,7 +87,7 @@ class Pipes:
         return self.stop()
 
     def stop(self) -> int:
-        """Ends the program, lets go of its pipes, and gives its status."""
+        """Ends the program, closes its pipes, and returns its status."""
         if self.process.poll() is None:
             self.process.kill()
         status = self.process.wait()
@@ -103,8 +103,8 @@ class Pipes:
         return status
 
     def _send(self, data: bytes) -> None:
-        """Writes a line. The program has read all lines before it, so there is room in the pipe but for one
-        that is longer than the pipe; that one waits for the program to read, as a reply is waited for."""
+        """Writes a line. The program has read all earlier lines, so the pipe has room for it, unless the line is longer
+        than the pipe. The rest of such a line waits for the program to read, until the deadline of the reply."""
         assert self.process.stdin is not None
         try:
             while True:
@@ -118,7 +118,7 @@ class Pipes:
             raise self._ending() from None
 
     def _next_line(self) -> str:
-        """The next line of a reply, which is to be whole by the time that `exchange` set for it."""
+        """Returns the next line of a reply. Raises `NoReply` at the deadline that `exchange` set."""
         while not self._lines:
             self._wait(0.2)
             if not self._lines and self._is_late():
@@ -126,21 +126,21 @@ class Pipes:
         return self._lines.popleft()
 
     def _wait(self, seconds: float) -> None:
-        """Waits that long for something to read, but not past the time that `exchange` set."""
+        """Waits that long for something to read, but not past the deadline."""
         left = seconds if self._until is None else self._until - time.monotonic()
         if not self._gather(min(seconds, left)):
             raise self._ending()
 
     def _is_late(self) -> bool:
-        """Whether the time that `exchange` set has come."""
+        """Whether the deadline has passed."""
         return self._until is not None and time.monotonic() >= self._until
 
     def _no_reply(self) -> NoReply:
         return NoReply(f"no whole reply within {self._timeout} seconds")
 
     def _gather(self, seconds: float) -> bool:
-        """Waits that long for something to read, and reads what is there. False at the end of it: the
-        output is closed at the other end, or the program had ended and nothing was left to read."""
+        """Waits that long for something to read, and reads it. Returns false if nothing more can come: the program has
+        closed its output, or has ended with nothing left to read."""
         gone = self.process.poll() is not None
         ready = self._watch.select(max(seconds, 0))
         for key, _ in ready:
@@ -159,7 +159,7 @@ class Pipes:
         return bool(ready) or not gone
 
     def _ending(self) -> ProgramEnded:
-        """How the program ended, with its last output. It is ended if it only closed its output."""
+        """Returns how the program ended, with its last output. A program that only closed its output is ended."""
         while self._watch.get_map() and self._gather(0.2):
             pass
         try:
@@ -173,7 +173,7 @@ class Pipes:
         return self._ended
 
     def _drain_errors(self) -> None:
-        """Takes what is still in the pipe of standard error."""
+        """Reads the rest of the program's standard error."""
         assert self.process.stderr is not None
         try:
             while True:

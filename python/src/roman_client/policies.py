@@ -1,4 +1,4 @@
-"""Which of the offered services is taken."""
+"""Policies, which choose one of the offered services."""
 
 from __future__ import annotations
 
@@ -13,8 +13,8 @@ from .documents import PathLike
 
 @dataclass(frozen=True)
 class Choice:
-    """What a policy chooses from: the services that are offered for an action, in the document's order,
-    and the behaviour of each service."""
+    """The input of a policy: the requested action, the services that are offered for it, in the document's order, and
+    the behaviour of each service."""
 
     action: str
     offered: tuple[str, ...]
@@ -29,31 +29,33 @@ class Chosen(NamedTuple):
 
 
 Policy = Callable[[Choice], Union[str, Chosen]]
-"""Names one of the offered services, with a reason or without. Whichever it names, the next request will have an
+"""Chooses one of the offered services, with or without a reason. After each possible choice, the next request has an
 offer."""
 
 
 def first_offered(choice: Choice) -> str:
-    """The policy of the first offered service."""
+    """Chooses the first offered service."""
     return choice.offered[0]
 
 
 GREATEST_COST = 1_000_000
-"""The most that an item of a table of costs may say."""
+"""The greatest cost in a table."""
 
 
 class LeastCost:
-    """The policy of the service that costs least for this request, the first of those that cost alike.
+    """Chooses the service that costs least for the request, and the first of several that cost the same.
 
     A cost is given for a behaviour and an action. The default is 0.
     """
 
     def __init__(self, costs: Iterable[Sequence[str | int]]) -> None:
-        """From a table of items `[behaviour, action, cost]`, the names and a whole number from 0 to
-        1,000,000. Raises ValueError for an item of another form, and for a second one with both names,
-        as `advise` refuses them. Names aren't looked up in a document."""
+        """`costs` is a table of items `[behaviour, action, cost]`. A cost is a whole number from 0 to 1,000,000.
+
+        Raises ValueError for an item of another form, and for a second item with the same names. `advise` refuses such
+        tables, too. The names aren't looked up in a document.
+        """
         self.costs: dict[tuple[str, str], int] = {}
-        """What the table says of a behaviour and an action."""
+        """The cost by behaviour and action."""
         for item in costs:
             if not isinstance(item, Sequence):
                 raise ValueError(f"{item!r} isn't [behaviour, action, cost]")
@@ -68,7 +70,7 @@ class LeastCost:
 
     @classmethod
     def read(cls, file: PathLike) -> LeastCost:
-        """From a JSON file with such a table. Raises ValueError for one that isn't a list, too."""
+        """Reads a table of costs from a JSON file. Raises ValueError if the file has another form."""
         with open(file, encoding="utf-8") as text:
             table = json.load(text)
         if not isinstance(table, list):

@@ -1,4 +1,4 @@
-"""Where a session stands, as a dispatcher keeps it."""
+"""The position of a session, which a dispatcher stores."""
 
 from __future__ import annotations
 
@@ -21,7 +21,7 @@ class Frozen(enum.Enum):
 
 
 class Place(NamedTuple):
-    """A service: its behaviour, its state, and why it is frozen, None if it isn't."""
+    """A service: its behaviour, its state, whether it is loose, and why it is frozen, None if it isn't."""
 
     behaviour: str
     state: str
@@ -51,7 +51,7 @@ class Position(NamedTuple):
 
     @property
     def services(self) -> tuple[Service, ...]:
-        """The services as a report shows them."""
+        """The services in the form of a report."""
         return tuple(
             Service(name, each.behaviour, each.state, each.frozen is not None, each.loose)
             for name, each in self.places.items()
@@ -62,11 +62,11 @@ class Position(NamedTuple):
         return frozenset(name for name, each in self.places.items() if each.frozen in causes)
 
     def with_place(self, service: str, place: Place) -> Position:
-        """The position with a service in that place."""
+        """The position with another place of a service."""
         return self._replace(places={**self.places, service: place})
 
     def after(self, words: tuple[str, ...], cause: Frozen) -> Position:
-        """The position after a change that the program accepted. A freeze has that cause."""
+        """The position after a change that the program accepted. `cause` is the reason of a freeze."""
         word, *rest = words
         position = self._replace(changes=self.changes + 1)
         if word == "jumpenv":

@@ -1,8 +1,8 @@
 """The lines of a session and their replies, and the steps of a session, without a transport.
 
-All that a session does is a generator of type `Steps`. It yields effects, subclasses of `Effect`, which a transport
-performs, and receives their results. So the session of this package, which waits, and that of `roman_client.aio` share
-all but the pipes.
+The steps of a session are generators of type `Steps`. They yield effects, which are subclasses of `Effect`. A transport
+performs the effects, and sends the results back. So the blocking session and that of `roman_client.aio` share all but
+the pipes.
 """
 
 from __future__ import annotations
@@ -28,17 +28,17 @@ Program = Union[str, Sequence[str]]
 LOG = logging.getLogger("roman_client.session")
 
 LONGEST = 16_777_216
-"""The most bytes that the lines of one program may have; a longer session ends with status 8."""
+"""The maximum length of all lines for one program, in bytes. A longer session ends with status 8."""
 
 
 RESERVE = 65_536
-"""With fewer bytes left a session goes on in a new program between two requests."""
+"""If fewer bytes are left, a session continues in a new program between two requests."""
 
 REMEMBERED = 1024
-"""How many lines of each kind are remembered, so that they are made once."""
+"""The number of lines of each kind that are cached."""
 
 WORD = re.compile(r"[^\s\x00-\x1f]+")
-"""A word of a line: letters without blanks and control characters."""
+"""A word of a line: any characters but blanks and control characters."""
 
 
 # Lines and replies.
@@ -46,8 +46,8 @@ WORD = re.compile(r"[^\s\x00-\x1f]+")
 
 @dataclass(frozen=True)
 class Event(Generic[Value]):
-    """A line of a session. `value` gives the value of its reply, or raises ValueError or IndexError. A reply
-    of several lines begins with the word `opens`, and ends with the line `end`."""
+    """A line of a session. `value` returns the value of its reply, or raises ValueError or IndexError. A reply of
+    several lines begins with the word `opens`, and ends with the line `end`."""
 
     words: tuple[str, ...]
     value: Callable[[Sequence[str]], Value]
@@ -56,12 +56,12 @@ class Event(Generic[Value]):
 
     @property
     def line(self) -> str:
-        """The line. Raises ValueError for a word that is none, and TypeError for one that is no text."""
+        """The line. Raises ValueError for an invalid word, and TypeError for one that isn't a text."""
         return self.data[:-1].decode()
 
     @property
     def data(self) -> bytes:
-        """The line as it is sent. Raises what `line` raises."""
+        """The line as it is sent. Raises the errors of `line`."""
         return _data(self.words)
 
 
@@ -75,7 +75,7 @@ def _data(words: tuple[str, ...]) -> bytes:
 
 
 def _words(first: str, count: int | None, lines: Sequence[str]) -> list[str]:
-    """The words of a reply of one line that begins with that one, and has so many."""
+    """The words of a reply of one line. Raises ValueError unless it begins with `first`, and has `count` words."""
     words = lines[0].split()
     if words[:1] != [first] or (count is not None and len(words) != count):
         raise ValueError("another reply")
@@ -121,42 +121,42 @@ def _repair(*words: str) -> Event[Repair]:
 
 
 def freeze(service: str) -> Event[Repair]:
-    """A service takes no requests any more."""
+    """Takes a service out of use."""
     return _repair("freeze", service)
 
 
 def thaw(service: str) -> Event[Repair]:
-    """A frozen service takes requests again."""
+    """Takes a frozen service back into use."""
     return _repair("thaw", service)
 
 
 def die(service: str) -> Event[Repair]:
-    """A service is gone."""
+    """Removes a service for good."""
     return _repair("die", service)
 
 
 def join(service: str, behaviour: str, state: str, *, loose: bool = False) -> Event[Repair]:
-    """A new service joins."""
+    """Adds a service in a state of a behaviour of the catalogue."""
     return _repair("join", service, behaviour, state, *(["loose"] if loose else []))
 
 
 def jump(service: str, state: str) -> Event[None]:
-    """A service is in that state now."""
+    """Sets the state of a service."""
     return Event(("jump", service, state), _nothing("jumped", 1), changes=True)
 
 
 def jumpenv(environment: str) -> Event[None]:
-    """The environment is in that state now."""
+    """Sets the state of the environment."""
     return Event(("jumpenv", environment), _nothing("jumped", 1), changes=True)
 
 
 def report() -> Event[Report]:
-    """The present states."""
+    """Asks for the present states."""
     return Event(("report",), report_of, opens="pairs")
 
 
 def explain() -> Event[Explanation]:
-    """Why the present pair isn't related."""
+    """Asks why the present pair isn't related."""
     return Event(("explain",), explanation_of, opens="lost")
 
 
@@ -166,7 +166,7 @@ def quit() -> Event[None]:
 
 
 def event_of(words: Sequence[str]) -> Event[Any]:
-    """The change that these words name. Raises ValueError if they name none."""
+    """Returns the change that these words describe. Raises ValueError if they describe none."""
     first, *rest = words
     if first == "join" and len(rest) in (3, 4) and rest[3:] in ([], ["loose"]):
         return join(rest[0], rest[1], rest[2], loose=len(rest) == 4)
@@ -180,10 +180,10 @@ def event_of(words: Sequence[str]) -> Event[Any]:
     }
     if first in one and len(rest) == 1:
         return one[first](*rest)
-    raise ValueError(f"{' '.join(words)} is no change")
+    raise ValueError(f"{' '.join(words)} isn't a change")
 
 
-# What a transport does.
+# The effects of a transport.
 
 
 @dataclass(slots=True)
@@ -218,7 +218,7 @@ class Stop(Effect):
 
 
 Steps = Generator[Effect, Any, Value]
-"""Effects, and the value at their end."""
+"""A generator of effects, which returns a value."""
 
 
 @dataclass(slots=True)
@@ -233,7 +233,7 @@ LAST_WORDS = ("refused", "limit", "usage:")
 
 
 def is_farewell(line: str) -> bool:
-    """Whether a line says, in place of a reply, why the program ends."""
+    """Whether a line replaces a reply, and states why the program ends."""
     words = line.split(maxsplit=1)
     return bool(words) and words[0] in LAST_WORDS
 
@@ -242,7 +242,7 @@ def is_farewell(line: str) -> bool:
 
 
 class Conversation:
-    """What a session knows and does, whatever the transport."""
+    """The state and the steps of a session, for any transport."""
 
     def __init__(self, system: PathLike, program: Program, folder: PathLike | None, longest: int) -> None:
         self.words = (program,) if isinstance(program, str) else tuple(program)
@@ -250,19 +250,19 @@ class Conversation:
         self.folder = folder
         self.longest = longest
         self.sent = 0
-        """How many bytes the present program was sent."""
+        """The number of bytes that were sent to the present program."""
         self.changes = 0
         self.request: str | None = None
-        """The action that is requested, while a request is open."""
+        """The action of the open request, None if there is none."""
         self.service: str | None = None
-        """The service that was used for it, once it is."""
+        """The service that was used for it, None before `use`."""
         self.document: Document | None = None
         self.unread: DocumentError | None = None
-        """Why the document couldn't be read."""
+        """The reason why the document couldn't be read."""
 
     def start(self) -> Steps[Report]:
-        """Starts the program on the document, and gives its first report. The document is kept for later,
-        where it can be read from here. Raises `ShortForm` if it is in the short form, and the program refuses that."""
+        """Starts the program on the document, and returns its first report. If the document can be read from here, it
+        is stored for snapshots. Raises `ShortForm` if it is in the short form, which the program refuses."""
         try:
             self.document = Document.load(self.system, self.folder)
         except DocumentError as error:
@@ -275,7 +275,7 @@ class Conversation:
             raise
 
     def resume(self, snapshot: Snapshot) -> Steps[Report]:
-        """Goes on from a snapshot, in a program of its own. Gives the report of the states there."""
+        """Continues from a snapshot in a new program, and returns the report of its states."""
         with tempfile.TemporaryDirectory(prefix="roman-") as folder:
             system = os.path.join(folder, Path(self.system).name)
             snapshot.document.write(system)
@@ -293,7 +293,7 @@ class Conversation:
         return (yield from self._told(report()))
 
     def snapshot(self) -> Steps[Snapshot]:
-        """The present states, and what is under way, to go on from."""
+        """Returns a snapshot with the present states and the open request."""
         if self.document is None:
             raise self.unread or DocumentError("the session wasn't begun")
         present = yield from self.tell(report())
@@ -304,9 +304,8 @@ class Conversation:
         return Snapshot(self.document.with_states(present), self.request, self.service)
 
     def tell(self, event: Event[Value]) -> Steps[Value]:
-        """Sends a line, and gives the value of the reply. Where the session is near its end it goes on in a
-        new program before that: between two requests while there is some room left, and at the latest
-        where there would be none."""
+        """Sends a line, and returns the value of the reply. If the program accepts few further bytes, the session first
+        continues in a new program: between two requests while there is some room, and otherwise when there is none."""
         data = event.data
         needed = self.sent + len(data) + len(REPORT)
         if needed > self.longest:
@@ -315,24 +314,24 @@ class Conversation:
             try:
                 yield from self._go_on()
             except (OSError, DocumentError) as error:
-                LOG.warning("%s can't go on in a new program yet: %s", self.system, error)
+                LOG.warning("%s can't continue in a new program yet: %s", self.system, error)
         return (yield from self._sent(event, data))
 
     def _go_on(self) -> Steps[None]:
-        """Goes on in a new program, where the document is known."""
+        """Continues in a new program, if the document is known."""
         if self.document is None:
-            LOG.warning("%s nears its end, and can't go on: %s", self.system, self.unread)
+            LOG.warning("%s can't continue in a new program: %s", self.system, self.unread)
             return
         snapshot = self._snapshot_of((yield from self._told(report())))
-        LOG.info("%s goes on in a new program after %s bytes", self.system, self.sent)
+        LOG.info("%s continues in a new program after %s bytes", self.system, self.sent)
         yield from self.resume(snapshot)
 
     def _told(self, event: Event[Value]) -> Steps[Value]:
-        """Sends a line, and gives the value of the reply."""
+        """Sends a line, and returns the value of the reply."""
         return self._sent(event, event.data)
 
     def _sent(self, event: Event[Value], data: bytes) -> Steps[Value]:
-        """Sends a line as these bytes, and gives the value of the reply."""
+        """Sends a line as these bytes, and returns the value of the reply."""
         self.sent += len(data)
         lines: list[str] = yield Exchange(data, event.opens)
         LOG.debug("%s: %s", data, lines[0])
@@ -348,7 +347,7 @@ class Conversation:
         return value
 
     def _note(self, event: Event[Any]) -> None:
-        """Keeps what an accepted line says of the open request."""
+        """Counts a change, and tracks the open request."""
         self.changes += event.changes
         if event.words[0] == "do":
             self.request = event.words[1]
@@ -359,11 +358,11 @@ class Conversation:
 
 
 REPORT = report().data
-"""The line that asks for the present states."""
+"""The line that asks for the present states, as it is sent."""
 
 
 def run(steps: Steps[Value], perform: Callable[[Effect], Any]) -> Value:
-    """Does the steps one by one, and gives their value."""
+    """Performs the effects one by one, and returns the value of the steps."""
     try:
         effect = next(steps)
         while True:

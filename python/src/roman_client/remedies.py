@@ -1,7 +1,7 @@
 """Remedies: changes after which the program finds a composition again.
 
-Each remedy is tried by the program itself, in a second session that begins in the present states. So a remedy
-promises what the program's report promises, and nothing beyond that.
+The program itself tries each remedy, in a second session that begins in the present states. So a remedy promises no
+more than the program's report.
 """
 
 from __future__ import annotations
@@ -19,15 +19,15 @@ from .session import Session
 from .snapshots import Snapshot
 
 LONGEST_NAME = 32
-"""The most letters of a service's name."""
+"""The maximum length of a service's name."""
 
 Words = tuple[str, ...]
 
 
 @dataclass(frozen=True)
 class Change:
-    """One change of a session: its line as words, what it means, what it is about, and the lines that take it
-    back. `cost` is its place in the order of remedies."""
+    """A change of a session: the words of its line, its description, the service that it is about, and the lines that
+    undo it. A change of the environment has an empty `subject`. Remedies are ordered by `cost`."""
 
     words: Words
     text: str
@@ -49,7 +49,7 @@ class Remedy:
 
     @property
     def cost(self) -> int:
-        """The place of the remedy in their order: the cheapest has the least."""
+        """The cost, by which remedies are ordered."""
         return sum(change.cost for change in self.changes)
 
     def __str__(self) -> str:
@@ -57,7 +57,7 @@ class Remedy:
 
 
 def changes(document: Document, report: Report) -> list[Change]:
-    """Each single change that can be made in the states of a report, the cheapest first."""
+    """The single changes that can be made in the states of a report, the cheapest first."""
     found = [*_thaws(report), *_environments(document, report), *_moves(document, report)]
     return [*found, *_joins(document, report), *_deaths(report)]
 
@@ -107,22 +107,22 @@ def _deaths(report: Report) -> Iterator[Change]:
 
 
 def free_name(behaviour: str, taken: Iterable[str]) -> str:
-    """A name for a further service of a behaviour."""
+    """Returns a name for a further service of a behaviour."""
     used = set(taken)
     names = (f"{behaviour[: LONGEST_NAME - len(str(each))]}{each}" for each in itertools.count(2))
     return next(name for name in names if name not in used)
 
 
 def joins_loose(document: Document, report: Report, behaviour: str) -> bool:
-    """Whether a further service of a behaviour is loose: if all others of it are."""
+    """Whether a further service of a behaviour is loose. It is if there are others, and all are loose."""
     others: list[Service] = [*report.services, *document.services]
     loose = [each.loose for each in others if each.behaviour == behaviour]
     return bool(loose) and all(loose)
 
 
 def pairs(document: Document, report: Report) -> list[Remedy]:
-    """Each pair of changes that can be made in the states of a report, the cheapest first. A service may be
-    thawed and moved; no other pair changes one thing twice."""
+    """The pairs of changes that can be made in the states of a report, the cheapest first. A pair may thaw and move one
+    service. Otherwise its two changes are about different things."""
     single = changes(document, report)
     found = []
     for first, second in itertools.combinations_with_replacement(single, 2):
@@ -135,8 +135,8 @@ def pairs(document: Document, report: Report) -> list[Remedy]:
 
 
 def helps(core: Conversation, remedy: Remedy) -> Steps[bool]:
-    """Whether the program finds a composition after the changes of a remedy, which are then taken back. A change
-    that goes beyond a limit doesn't help."""
+    """Whether the program finds a composition after the changes of a remedy. The changes are then undone. A change that
+    exceeds a limit doesn't help."""
     made: list[Change] = []
     found = False
     try:
@@ -153,13 +153,14 @@ def helps(core: Conversation, remedy: Remedy) -> Steps[bool]:
 
 
 def singles(document: Document, report: Report) -> list[Remedy]:
-    """Each single change as a remedy to be tried."""
+    """The single changes as remedies to try."""
     return [Remedy((change,)) for change in changes(document, report)]
 
 
 def mend(document: Document, report: Report, *, program: Program = "roman", two: bool = False) -> tuple[Remedy, ...]:
-    """The changes after which there is a composition, the cheapest first. With `two` also pairs of changes, if no
-    single one helps. `report` belongs to a session that began with `document`; that session isn't touched."""
+    """Returns the changes after which there is a composition, the cheapest first. With `two`, these may be pairs of
+    changes if no single change helps. Returns none if there is a composition already. `report` belongs to a session
+    that began with `document`, and that isn't changed."""
     if report.composition:
         return ()
     with Session.resume(Snapshot(document.with_states(report)), program=program) as session:
@@ -172,7 +173,7 @@ def mend(document: Document, report: Report, *, program: Program = "roman", two:
 
 
 def first_of_each(remedies: Sequence[Remedy], most: int) -> list[Remedy]:
-    """The cheapest remedies, at most so many, and one for each kind of change of each thing first."""
+    """The cheapest remedies, at most `most`. The first remedy of each kind comes before all others."""
     seen: set[tuple[str, ...]] = set()
     first: list[Remedy] = []
     rest: list[Remedy] = []
@@ -184,5 +185,5 @@ def first_of_each(remedies: Sequence[Remedy], most: int) -> list[Remedy]:
 
 
 def _kind(change: Change) -> str:
-    """What a change is about: for a join the behaviour, and else the word and the service."""
+    """The kind of a change: its word, with the behaviour for a join, and otherwise with the service."""
     return f"join {change.words[2]}" if change.words[0] == "join" else f"{change.words[0]} {change.subject}"

@@ -8,7 +8,7 @@ from dataclasses import dataclass
 
 @dataclass(frozen=True)
 class Offer:
-    """The services that may serve the request for an action, each without a dead end."""
+    """The services that may serve the requested action. None of them leads to a dead end."""
 
     action: str
     services: tuple[str, ...]
@@ -16,7 +16,7 @@ class Offer:
 
 @dataclass(frozen=True)
 class Move:
-    """A request is done: the present states of the target and the environment."""
+    """The states of the target and the environment after a request."""
 
     target: str
     environment: str
@@ -24,21 +24,21 @@ class Move:
 
 @dataclass(frozen=True)
 class Repair:
-    """What a change cost: of the pairs that aren't related now, `kept` follow from what was known
-    before it, and `added` were found anew."""
+    """The work of a change. Of the pairs that aren't related now, `kept` follow from those before the change, and
+    `added` were found anew."""
 
     kept: int
     added: int
 
     @property
     def lost(self) -> int:
-        """How many pairs aren't related now."""
+        """The number of pairs that aren't related now."""
         return self.kept + self.added
 
 
 @dataclass(frozen=True)
 class Service:
-    """A service as a report shows it."""
+    """A service in a report."""
 
     name: str
     behaviour: str
@@ -49,10 +49,10 @@ class Service:
 
 @dataclass(frozen=True)
 class Report:
-    """The present states, and what is offered from them.
+    """The present states, and the offers.
 
-    `composition` says that the present pair is related. `offers` has the offered services for each
-    action that the target allows here, in the document's order; it is empty where there is no
+    `pairs` and `related` are numbers of pairs. `composition` is true if the present pair is related. `offers` has the
+    offered services of each action that the target allows, in the document's order. It is empty if there is no
     composition.
     """
 
@@ -68,10 +68,10 @@ class Report:
 
 @dataclass(frozen=True)
 class Answer:
-    """What a service does to a request that is lost.
+    """Why a service can't serve a request.
 
-    `outcome` is None where the service can't take the request; else it is a state of the service and one
-    of the environment that it may answer with, and that lead to a pair which is lost already.
+    `outcome` is None if the service can't take the request. Otherwise it is a possible outcome, the states of the
+    service and the environment, that leads to an earlier entry.
     """
 
     service: str
@@ -82,9 +82,9 @@ class Answer:
 class Lost:
     """A pair that is lost, with the reason.
 
-    `request` is the action that can't be served, with an answer of each ready service; or None where the
-    target may be left here and a service may not. (An action that is named `final` can't be told from
-    that where no service is ready.)
+    `request` is an action that can't be served, and `answers` has an answer of each ready service. If `request` is
+    None, the target is final in this pair, but a service isn't. It is None, too, for an action that is named `final`
+    if no service is ready.
     """
 
     target: str
@@ -96,7 +96,7 @@ class Lost:
 
 @dataclass(frozen=True)
 class Explanation:
-    """Why a pair isn't related: each entry is lost by those before it alone, and the last one is the
+    """Why the present pair isn't related. Each entry is lost because of earlier entries alone. The last entry is the
     present pair."""
 
     entries: tuple[Lost, ...]
@@ -120,7 +120,7 @@ def _told(entry: Lost) -> str:
 
 
 def report_of(lines: Sequence[str]) -> Report:
-    """The report in these lines, the last of which is `end`. Raises ValueError if they are none."""
+    """Reads a report, whose last line is `end`. Raises ValueError if the lines have another form."""
     rest = [line.split() for line in lines]
     (pairs_word, pairs), (related_word, related), (environment_word, environment) = rest[:3]
     target_word, target, finality = rest[3]
@@ -159,7 +159,7 @@ def report_of(lines: Sequence[str]) -> Report:
 
 
 def explanation_of(lines: Sequence[str]) -> Explanation:
-    """The explanation that these lines are, the last of which is `end`. ValueError where they are none."""
+    """Reads an explanation, whose last line is `end`. Raises ValueError if the lines have another form."""
     entries: list[Lost] = []
     for line in lines[:-1]:
         words = line.split()
@@ -186,7 +186,7 @@ def _answer_of(words: Sequence[str]) -> Answer:
 
 
 def _with_answer(entry: Lost, answer: Answer) -> Lost:
-    """The entry with one more answer. An entry with answers is lost by a request, though it be one for
-    an action that is named `final`."""
+    """The entry with one more answer. An entry with answers always has a request: if it is None, the action is named
+    `final`."""
     request = "final" if entry.request is None else entry.request
     return Lost(entry.target, entry.environment, entry.states, request, (*entry.answers, answer))

@@ -1,4 +1,4 @@
-"""A session with the program, for callers that wait."""
+"""A session with the program, for callers that block."""
 
 from __future__ import annotations
 
@@ -16,24 +16,24 @@ from .replies import Explanation, Move, Offer, Repair, Report
 from .snapshots import Snapshot
 
 PATIENCE = 5.0
-"""How many seconds the end of a session waits for the call of another thread before it interrupts it."""
+"""The number of seconds that `close` waits for the call of another thread before it interrupts that call."""
 
 
 class Session:
     """A running program that answers the lines of a session.
 
-    It is a context manager, and ends the program at the end of the block. Each event has a method.
-    It sends one line and waits for the whole reply; a refusal is raised as a `Refusal`, and changes
-    nothing. Where the program has ended, each call raises `ProgramEnded`, and none waits for it.
+    A session is a context manager, which ends the program at the end of the block. Each event has a method, which sends
+    one line and waits for the whole reply. Calls of several threads take turns.
 
-    A program takes 16,777,216 bytes of lines. Where they are used up the session goes on in a new one,
-    from the states that it has, and no call notices; only `Repair.kept` and `Repair.added`, and which
-    entries an explanation shows, may come out differently then.
+    If the program refuses a line, the method raises a `Refusal`, and nothing changes. A word that is empty, has a space
+    or can't be encoded raises ValueError, and one that isn't a text raises TypeError. Nothing is sent then. If the
+    program has ended, each call raises `ProgramEnded` at once. If an exchange with the program fails or is interrupted,
+    the session ends the program, because the rest of its reply would be taken for the next one.
 
-    Calls of several threads take turns. A word that is empty, has a space in it or can't be encoded is a
-    ValueError, one that is no text a TypeError, and nothing is sent. After any other exception that isn't
-    a `Refusal` the program has ended, or is ended, since a reply that was half read can't be told from the
-    next one.
+    A program accepts 16,777,216 bytes of lines. When few are left, the session continues in a new program from the
+    present states, which callers don't notice. Only the split between `Repair.kept` and `Repair.added`, and the entries
+    of an explanation, may differ. The session needs its document for this. If the document can't be read from here, a
+    session of that length ends.
     """
 
     def __init__(
@@ -48,15 +48,14 @@ class Session:
     ) -> None:
         """Starts the program on a document, and waits for its first report.
 
-        `program` is its name, or a list of the words that call it; `folder` is where it runs, and where
-        the names of part files count from; `timeout` is how many seconds a reply may take, for ever
-        where it is None; `longest` is how many bytes of lines a program gets. Raises `ProgramEnded` where
-        the document is refused or over its limit.
+        `program` is its name, or a list of the words that call it. `folder` is the folder in which it runs, and names
+        of files are relative to it. `timeout` is the number of seconds that a reply may take, None for no limit.
+        `longest` is the number of bytes of lines after which the session continues in a new program. Raises
+        `ProgramEnded` if the document is refused or exceeds its limit, and OSError if the program can't be started.
 
-        If `library` is true, the session runs within this process, by libroman, and not in a program of its
-        own: a request takes microseconds, `program`, `timeout` and `longest` count for nothing, and a crash
-        of this process takes the session along. A path names the shared library. Raises OSError if it isn't
-        there.
+        If `library` is true, the session runs within this process, by libroman, and a request takes microseconds. It
+        needs no program, ignores `timeout` and `longest`, and ends if this process crashes. A path names the shared
+        library. Raises OSError if the library can't be loaded.
         """
         self.core = Conversation(system, program, folder, UNLIMITED if library else longest)
         self._begin(timeout, library, self.core.start())
@@ -72,7 +71,8 @@ class Session:
         longest: int = LONGEST,
         library: Library = False,
     ) -> Session:
-        """A session that goes on from a snapshot, with the request that was open there."""
+        """Returns a session that continues from a snapshot, with its open request. The arguments are those of
+        `Session`."""
         session = cls.__new__(cls)
         session.core = Conversation("system.json", program, folder, UNLIMITED if library else longest)
         session._begin(timeout, library, session.core.resume(snapshot))
@@ -114,7 +114,7 @@ class Session:
         return self.tell(protocol.freeze(service))
 
     def thaw(self, service: str) -> Repair:
-        """Takes a frozen service into use again."""
+        """Takes a frozen service back into use."""
         return self.tell(protocol.thaw(service))
 
     def die(self, service: str) -> Repair:
@@ -122,23 +122,24 @@ class Session:
         return self.tell(protocol.die(service))
 
     def join(self, service: str, behaviour: str, state: str, *, loose: bool = False) -> Repair:
-        """Adds a service in that state of a behaviour of the catalogue."""
+        """Adds a service in a state of a behaviour of the catalogue. A loose service needn't rest when the target is
+        final."""
         return self.tell(protocol.join(service, behaviour, state, loose=loose))
 
     def jump(self, service: str, state: str) -> None:
-        """Sets the state of a service, whatever its transitions are."""
+        """Sets the state of a service. No transition has to lead there."""
         self.tell(protocol.jump(service, state))
 
     def jumpenv(self, environment: str) -> None:
-        """Sets the state of the environment, whatever its transitions are."""
+        """Sets the state of the environment. No transition has to lead there."""
         self.tell(protocol.jumpenv(environment))
 
     def report(self) -> Report:
-        """The present states, and what is offered from them."""
+        """Returns the present states, and the offers."""
         return self.tell(protocol.report())
 
     def explain(self) -> Explanation:
-        """Why the present pair isn't related. Raises `Related` if it is."""
+        """Returns why the present pair isn't related. Raises `Related` if it is."""
         return self.tell(protocol.explain())
 
     def quit(self) -> int:
@@ -151,15 +152,15 @@ class Session:
         return self.run(self.core.tell(event))
 
     def restore(self, snapshot: Snapshot) -> Report:
-        """Goes on from a snapshot in a new program, and returns the report of its states."""
+        """Continues from a snapshot in a new program, and returns the report of its states."""
         return self.run(self.core.resume(snapshot))
 
     def snapshot(self) -> Snapshot:
-        """Where the session stands, to `resume` from. Raises `DocumentError` where the document couldn't
-        be read from here."""
+        """Returns a snapshot, with which `resume` continues. Raises `DocumentError` if the document couldn't be read
+        from here."""
         return self.run(self.core.snapshot())
 
-    # Its end.
+    # State, and the end.
 
     @property
     def changes(self) -> int:
@@ -173,12 +174,12 @@ class Session:
 
     @property
     def pid(self) -> int:
-        """The process ID of the program."""
+        """The process ID of the program. In a session by the library, it is that of this process."""
         return self._running().pid
 
     @property
     def room(self) -> int:
-        """The number of bytes that the present program still takes."""
+        """The number of bytes of lines that the present program still accepts."""
         return self.core.longest - self.core.sent
 
     def close(self) -> int:
@@ -202,15 +203,15 @@ class Session:
     ) -> None:
         self.close()
 
-    # Its steps.
+    # Steps.
 
     def run(self, steps: Steps[Value]) -> Value:
-        """Carries out the steps of the session."""
+        """Performs steps of the session, and returns their value."""
         with self._turn:
             return protocol.run(steps, self._perform)
 
     def _perform(self, effect: Effect) -> Any:
-        """Carries out one step of the session."""
+        """Performs one effect."""
         if isinstance(effect, Exchange):
             return self._running().exchange(effect)
         if isinstance(effect, Start):
@@ -220,7 +221,7 @@ class Session:
             return None
         if isinstance(effect, Stop):
             return self._running().stop()
-        raise TypeError(f"{effect!r} is no step of a session")
+        raise TypeError(f"{effect!r} isn't an effect of a session")
 
     def _started(self, start: Start) -> Pipes | InProcess:
         return InProcess(start, self._library) if self._library else Pipes(start, self._timeout)

@@ -33,7 +33,7 @@ class Snapshot:
             raise DocumentError(f"it isn't a snapshot: {error!r}") from None
         for word in (request, service):
             if word is not None and not isinstance(word, str):
-                raise DocumentError(f"{word!r} is no name")
+                raise DocumentError(f"{word!r} isn't a name")
         return cls(document, request, service)
 
     def write(self, path: PathLike) -> None:

@@ -35,7 +35,7 @@ COMMITS = 8
 """The number of recent commits of which the quickest one is the pace of the disk."""
 
 HISTORY = 100_000
-"""The most calls, and the most changes, in the history."""
+"""The maximum number of calls in the history, and that of changes."""
 
 SCHEMA = """
 CREATE TABLE home (
@@ -248,7 +248,7 @@ class Store:
         self.sync()
 
     def write(self, position: Position, entries: Sequence[Entry]) -> None:
-        """Begins a commit, which takes no time on the disk. `sync` ends it. Raises `StoreFailed`."""
+        """Begins a commit without waiting for the disk. `sync` ends it. Raises `StoreFailed`."""
         database = self._connection()
         self._check_there()
         begun = time.perf_counter()
@@ -298,7 +298,7 @@ class Store:
         return dict(self._database.execute("SELECT service, max(number) FROM calls GROUP BY service"))
 
     def _check_there(self) -> None:
-        """Raises `StoreFailed` if a file was removed or replaced, since another dispatcher may be at work then."""
+        """Raises `StoreFailed` if a file was removed or replaced: another dispatcher may be at work then."""
         for name, file in self._files.items():
             try:
                 found = os.stat(name)
@@ -331,7 +331,7 @@ def _lock_of(path: Path) -> str:
 
 
 def _locked(path: Path) -> int:
-    """Locks a store, until this process ends at the latest. Returns the file of the lock."""
+    """Locks a store, until this process ends at the latest. Returns the file descriptor of the lock."""
     name = _lock_of(path)
     try:
         lock = os.open(name, os.O_RDWR | os.O_CREAT | os.O_CLOEXEC, 0o644)
@@ -346,7 +346,7 @@ def _locked(path: Path) -> int:
 
 
 def _connected(path: Path) -> sqlite3.Connection:
-    """A connection that may write."""
+    """Opens a connection that may write."""
     database = sqlite3.connect(path, isolation_level=None, check_same_thread=False)
     try:
         database.execute("PRAGMA journal_mode = WAL")
@@ -359,7 +359,7 @@ def _connected(path: Path) -> sqlite3.Connection:
 
 @contextlib.contextmanager
 def open_read_only(path: PathLike) -> Iterator[sqlite3.Connection]:
-    """A read-only connection, which can be opened while a dispatcher is at work. Raises `StoreBroken`."""
+    """Opens a read-only connection, also while a dispatcher is at work. Raises `StoreBroken`."""
     place = Path(os.path.abspath(path))
     try:
         with contextlib.closing(sqlite3.connect(f"{place.as_uri()}?mode=ro", uri=True)) as database:
@@ -384,7 +384,7 @@ def _broken(path: Path, error: Exception) -> StoreBroken:
 
 
 def read(database: sqlite3.Connection, path: Path) -> Stored:
-    """The content of a database. Raises `StoreBroken`."""
+    """Reads the content of a database. Raises `StoreBroken`."""
     try:
         _check_version(database)
         ((document, *numbers),) = database.execute(

@@ -1,7 +1,7 @@
-"""Takes over a journal of the form that stores had before they were databases: a line of JSON for each event.
+"""Imports a journal, the older form of a store: a line of JSON for each event.
 
-The first line is a snapshot, and each other one an event since then. The session plays them once more, and the
-position that it comes to is the first one of the database.
+The first line is a snapshot, and each other line is an event since then. The session replays the events, and the
+resulting position is the first one of the database.
 """
 
 from __future__ import annotations
@@ -25,13 +25,13 @@ from .snapshots import Snapshot
 LOG = logging.getLogger("roman_client.store")
 
 MAGIC = b"SQLite format 3\0"
-"""How a database begins."""
+"""The first bytes of a database."""
 
 
 @dataclass(frozen=True)
 class Journal:
-    """A journal: its head, and the events since then. `roman-live` stored two things beside it: the services that were
-    frozen by hand, and the number that its calls count from. Both are None if it didn't write the journal."""
+    """A journal: its first line, and the events since then. `roman-live` stored two values beside it: the services that
+    were frozen by hand, and the number from which its calls are counted. Both are None for another program."""
 
     path: Path
     snapshot: Snapshot
@@ -45,13 +45,13 @@ class Journal:
 
     @classmethod
     def read(cls, path: Path) -> Journal:
-        """Reads a journal. A last line that isn't whole is left out: it was torn by the end of the dispatcher. Raises
+        """Reads a journal. An incomplete last line is left out: the dispatcher ended while it was written. Raises
         `StoreBroken`."""
         lines = _lines(path)
         try:
             head = json.loads(lines[0])
             if head["journal"] != 1:
-                raise ValueError(f"{head['journal']!r} is no version of a journal")
+                raise ValueError(f"{head['journal']!r} isn't a version of a journal")
             snapshot = Snapshot.of_json(head["snapshot"])
             keys: dict[str, Done | Call] = {
                 key: done_of(kept) if kind == "done" else call_of(kept) for key, kind, kept in head["keys"]
@@ -64,7 +64,7 @@ class Journal:
             raise StoreBroken(f"{path} is neither a store nor a journal: {error!r}") from None
 
     def present(self) -> set[str]:
-        """The services that are present at its end."""
+        """The services that are present at the end of the journal."""
         found = {each.name for each in self.snapshot.document.services}
         for event in self.events:
             word, service, *_ = event.get("words") or ("", "")
@@ -75,7 +75,7 @@ class Journal:
         return found
 
     def forget(self) -> None:
-        """Removes what stood beside the journal, once it is taken over."""
+        """Removes the files beside the journal, once it is imported."""
         for ending in (".live", ".commands"):
             with contextlib.suppress(OSError):
                 self.path.with_name(f"{self.path.name}{ending}").unlink()
@@ -94,14 +94,14 @@ def is_database(path: Path) -> bool:
 
 
 def _lines(path: Path) -> list[bytes]:
-    """The whole lines of a journal."""
+    """The complete lines of a journal."""
     try:
         data = path.read_bytes()
     except OSError as error:
         raise StoreBroken(f"{path}: {error.strerror}") from error
     *lines, rest = data.split(b"\n")
     if rest or lines and not _is_json(lines[-1]):
-        LOG.warning("%s: the last line was torn, and is left out", path)
+        LOG.warning("%s: the last line is incomplete, and is left out", path)
     return lines if not lines or len(lines) == 1 or _is_json(lines[-1]) else lines[:-1]
 
 
@@ -113,7 +113,7 @@ def _is_json(line: bytes) -> bool:
 
 
 def _beside(path: Path) -> tuple[frozenset[str] | None, int | None]:
-    """The services that were frozen by hand, and the first number, of the small file beside a journal."""
+    """The services that were frozen by hand, and the first number, from the file beside a journal."""
     try:
         value = json.loads(path.with_name(f"{path.name}.live").read_text(encoding="utf-8"))
     except FileNotFoundError:
@@ -124,12 +124,12 @@ def _beside(path: Path) -> tuple[frozenset[str] | None, int | None]:
 
 
 def call_of(value: Any) -> Call:
-    """The call that this JSON is."""
+    """Reads a call from JSON."""
     return Call(value["service"], value["action"], value["request"], value["number"], value["key"])
 
 
 def done_of(value: Any) -> Done:
-    """The request that was served that this JSON is."""
+    """Reads a request that was served from JSON."""
     failures = tuple(
         Failure(each["service"], each["action"], DeviceFailed(each["error"] or f"answered {each['outcome']}"), None)
         for each in value["failures"]
@@ -138,7 +138,8 @@ def done_of(value: Any) -> Done:
 
 
 class Replay:
-    """Plays a journal once more in a session that stands at its snapshot, and has what a dispatcher knew at its end."""
+    """Replays a journal in a session that begins at its snapshot. Its attributes are then those of the dispatcher at
+    the end of the journal."""
 
     def __init__(self, journal: Journal) -> None:
         document = journal.snapshot.document
@@ -149,12 +150,12 @@ class Replay:
         self.request = 0
         self.failures: list[Failure] = []
         self._journal = journal
-        # A dispatcher froze for failures, or by hand. A home also froze devices that were gone.
+        # A dispatcher froze services that failed, or by hand. A home also froze devices that were gone.
         self._unfailed = Frozen.BY_HAND if journal.by_hand is None else Frozen.GONE
         self._open = False
 
     def play(self) -> Steps[None]:
-        """Plays all events."""
+        """Replays all events."""
         for service in self._journal.snapshot.document.services:
             if service.frozen:
                 cause = Frozen.FAILED if service.name in self._journal.failed else self._unfailed
@@ -190,7 +191,7 @@ class Replay:
             self.under_way, self._open = None, False
             yield Tell(protocol.abort())
         else:
-            raise ValueError(f"{kind!r} is no event")
+            raise ValueError(f"{kind!r} isn't an event")
 
     def _begin(self, call: Call, again: bool) -> Steps[None]:
         if not self._open:

@@ -1,4 +1,4 @@
-"""The same calls for asyncio, over its subprocess streams.
+"""The same calls as `roman_client`, for asyncio.
 
     async with aio.Session("home.json") as session:
         async with aio.Dispatcher(session, devices) as dispatcher:

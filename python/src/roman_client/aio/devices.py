@@ -1,4 +1,4 @@
-"""How services are reached, for asyncio."""
+"""Devices, for asyncio."""
 
 from __future__ import annotations
 
@@ -10,11 +10,11 @@ from ..policies import Choice, Chosen
 
 
 class Device:
-    """How a service is reached, for classes to derive from, as `roman_client.Device` with coroutines. A
-    coroutine function does as well.
+    """The base class of devices: `roman_client.Device` with coroutines. A coroutine function can be a device, too, and
+    `device` adds these attributes to it.
 
-    `timeout` is how many seconds it may take, None for ever; then it is cancelled. `repeatable` says that
-    it may safely be asked twice for one thing, and `late_is_doubt` what it says there.
+    A call that takes more than `timeout` seconds is cancelled. None is no limit. `repeatable` and `late_is_doubt` are
+    those of `roman_client.Device`.
     """
 
     timeout: float | None = None
@@ -22,13 +22,13 @@ class Device:
     late_is_doubt: bool = False
 
     async def serve(self, call: Call) -> Outcome:
-        """Carries out an action, and gives its outcome. Where it can't, it raises an exception, as
-        `DeviceFailed`, and its service keeps its state."""
+        """Carries out an action, and returns its outcome. Raises an exception, such as `DeviceFailed`, if it can't. The
+        service keeps its state then."""
         raise NotImplementedError
 
     async def state(self, call: Call) -> Told:
-        """What became of a call that was under way when the dispatcher was killed: where the device is now,
-        or NOT_DONE, or None if it doesn't know."""
+        """Returns what the device knows of a call that was under way when the dispatcher was killed. With
+        `late_is_doubt` this is also called after a call that was late or lost."""
         return None
 
 
@@ -70,19 +70,19 @@ def device(
     repeatable: bool = False,
     late_is_doubt: bool = False,
 ) -> Device:
-    """A device made of a coroutine function from the requested action to its outcome, and of what `Device`
-    has besides."""
+    """Returns a device that awaits `act` with the requested action. `act` returns the outcome. The other arguments are
+    those of `Device`."""
     return FunctionDevice(act, state, timeout, repeatable, late_is_doubt)
 
 
 def as_device(given: Device | Act) -> Device:
-    """A device, where a coroutine function is given as one."""
+    """Returns the device itself, or a device that awaits the function."""
     return given if isinstance(given, Device) else FunctionDevice(given, None, None, False)
 
 
 Policy = Callable[[Choice], Union[str, Chosen, Awaitable[Union[str, Chosen]]]]
-"""Names one of the offered services, at once or later."""
+"""Chooses one of the offered services, at once or later."""
 
 IsBack = Union[bool, str, None]
 Back = Callable[[str], Union[IsBack, Awaitable[IsBack]]]
-"""Whether a service that failed is back, at once or later; see `roman_client.Back`."""
+"""Returns whether a service that failed is back, at once or later; see `roman_client.Back`."""

@@ -35,9 +35,9 @@ AT_ONCE = 0.0005
 class Dispatcher:
     """Serves requests by devices, as `roman_client.Dispatcher` does.
 
-    `async with` begins it, and closes its store at the end of the block; or call `begin` and `close`.
-    Requests and changes may come from several tasks, and take turns. A request that is cancelled while a
-    device is at work is in doubt, since the device may have done it, and its service is frozen.
+    `async with` begins it, and closes its store at the end of the block. Alternatively, call `begin` and `close`.
+    Several tasks can make requests and changes, which take turns. If a request is cancelled while a device is at work,
+    the device may have carried it out. The request is then in doubt, and the service is frozen.
     """
 
     def __init__(
@@ -51,8 +51,8 @@ class Dispatcher:
         store: PathLike | Store | None = None,
         watch: Watch | None = None,
     ) -> None:
-        """The words are those of `roman_client.Dispatcher`. The session has begun when this begins. The store may
-        be one that is open; it is closed with this."""
+        """The arguments are those of `roman_client.Dispatcher`. The session must begin before the dispatcher does.
+        `store` can also be an open store, which the dispatcher closes."""
         self.session = session
         self.policy = policy
         self._back = back
@@ -68,8 +68,8 @@ class Dispatcher:
         self._draining: set[asyncio.Task[None]] = set()
 
     async def begin(self) -> Dispatcher:
-        """Begins with the present session, or continues from the store. Raises `StoreBroken` if the store is one of
-        another document."""
+        """Begins with the present session, or continues from the store. Raises `StoreBroken` if the store belongs to
+        another document, `StoreFailed` if it can't be written, and ValueError if a service has no device."""
         self._begun = True
         try:
             await self._in_turn(lambda: self._core.begin(self.session.core.document))
@@ -89,12 +89,12 @@ class Dispatcher:
 
     @property
     def devices(self) -> dict[str, Device]:
-        """The devices by service, to add some before it begins."""
+        """The devices by service. Devices can be added before the dispatcher begins."""
         return self._core.devices
 
     @property
     def failed(self) -> frozenset[str]:
-        """The services that are frozen because they failed, or were frozen when the dispatcher began."""
+        """The services that are frozen, and weren't frozen by hand."""
         return self.core.failed
 
     @property
@@ -104,23 +104,23 @@ class Dispatcher:
 
     @property
     def under_way(self) -> Call | None:
-        """The call that is under way."""
+        """The call that is under way, None if there is none."""
         return self.core.under_way
 
     @property
     def recovered(self) -> Recovery | None:
-        """The result of the call that was under way when the dispatcher was killed."""
+        """The result of the call that was under way when the dispatcher was killed, None if there was none."""
         return self.core.recovered
 
     async def report(self) -> Report:
-        """The present states. It may be called while a request is open, too."""
+        """Returns the present states. It may be called while a request is open."""
         try:
             return await self.session.report()
         except SessionOver:
             return await self._in_turn(lambda: self.core.event(protocol.report()))
 
     async def explain(self) -> Explanation:
-        """Why the present pair isn't related. Raises `Related` if it is."""
+        """Returns why the present pair isn't related. Raises `Related` if it is."""
         return await self._in_turn(lambda: self.core.event(protocol.explain()))
 
     # Requests.
@@ -139,21 +139,21 @@ class Dispatcher:
         source: str | None = None,
     ) -> Done:
         """Records that a request was served, with that outcome. No device is asked. This settles a request in doubt
-        that was done."""
+        that was carried out, once its service is thawed."""
         return await self._in_turn(lambda: self.core.record(action, service, (state, environment), key, source))
 
     # Changes.
 
     async def change(self, event: Event[Value], source: str | None = None) -> Value:
-        """Makes a change of `roman_client.protocol`, with its source for the history."""
+        """Makes a change, which is an event of `roman_client.protocol`. `source` names its sender for the history."""
         return await self._in_turn(lambda: self.core.event(event, source=source))
 
     async def thaw(self, service: str, state: str | None = None, source: str | None = None) -> Repair:
-        """Takes a frozen service into use again, in that state, or in the one that it had."""
+        """Takes a frozen service back into use, in the given state, or in the one that it had."""
         return await self._in_turn(lambda: self.core.thaw(service, state, source))
 
     async def freeze(self, service: str) -> Repair:
-        """Takes a service out of use by hand, until `thaw`; also one that is frozen since it failed."""
+        """Takes a service out of use by hand, until `thaw`. The service may be frozen already because it failed."""
         return await self.change(protocol.freeze(service))
 
     async def die(self, service: str) -> Repair:
@@ -174,25 +174,25 @@ class Dispatcher:
         return await self._in_turn(lambda: self.core.join(service, behaviour, state, loose, as_device(device), source))
 
     async def jump(self, service: str, state: str) -> None:
-        """Sets the state of a service, whatever its transitions are."""
+        """Sets the state of a service. No transition has to lead there."""
         await self.change(protocol.jump(service, state))
 
     async def jumpenv(self, environment: str) -> None:
-        """Sets the state of the environment, whatever its transitions are."""
+        """Sets the state of the environment. No transition has to lead there."""
         await self.change(protocol.jumpenv(environment))
 
     def post(
         self, event: Event[Value], cause: Frozen = Frozen.BY_HAND, source: str | None = None
     ) -> asyncio.Future[Value]:
-        """Schedules a change of `roman_client.protocol`, such as `jumpenv("dusk")`, and returns at once. If a request
-        is open, the change waits for its turn. Devices and policies may call this, too. `cause` is that of a freeze."""
+        """Schedules a change, such as `protocol.jumpenv("dusk")`, and returns at once. If a request is open, the change
+        waits for its turn. Devices and policies may call this. `cause` is the reason of a freeze."""
         future: asyncio.Future[Value] = asyncio.get_running_loop().create_future()
         self.core.inbox.append(Posted(event, cause, source, functools.partial(settle, future)))
         self._drain_later()
         return future
 
     async def close(self) -> None:
-        """Closes the store. The session continues."""
+        """Waits for the posted changes, and closes the store. The session continues."""
         if self._draining:
             await asyncio.wait(set(self._draining))
         if self._store is not None:
@@ -338,7 +338,7 @@ def settle(future: asyncio.Future[Any], value: Any, error: BaseException | None)
 
 
 def _nothing() -> Steps[None]:
-    """No steps of its own."""
+    """Takes no steps."""
     yield from ()
 
 
@@ -359,7 +359,7 @@ async def _value(later: Awaitable[Value]) -> Value:
 
 
 async def _called(call: Callable[..., Any], *words: Any) -> Any:
-    """The value of a call, at once or later."""
+    """Returns the value of a call, which may be awaitable."""
     value = call(*words)
     return await value if inspect.isawaitable(value) else value
 
@@ -369,7 +369,7 @@ def _expire(answer: asyncio.Future[Any], timeout: float) -> None:
 
 
 async def _answering(work: Coroutine[Any, Any, Value], answer: asyncio.Future[Value]) -> None:
-    """Gives a future what becomes of a work. What comes late is logged, if it is an error."""
+    """Sets the result of the work in a future. Logs an error that comes after the deadline."""
     value, error = None, None
     try:
         value = await work

@@ -1,4 +1,4 @@
-"""A session within this process, by libroman, for callers that await."""
+"""Sessions within this process, by libroman, for asyncio."""
 
 from __future__ import annotations
 
@@ -7,7 +7,7 @@ from ..protocol import Exchange, Start
 
 
 class LibraryStreams:
-    """A session of the library, with the calls of `Streams`. A line takes microseconds, and isn't awaited."""
+    """A session of the library, with the methods of `Streams`. A line takes microseconds, and isn't awaited."""
 
     def __init__(self, start: Start, library: Library) -> None:
         self._session = InProcess(start, library)
@@ -22,13 +22,13 @@ class LibraryStreams:
         return self._session.exchange(exchange)
 
     def poll(self) -> int | None:
-        """The status of the program that would have ended as this session did, or None while it goes on."""
+        """The status with which the program would have ended, or None while the session is open."""
         return self._session.poll()
 
     async def close(self) -> int:
-        """Ends the session, and returns the program's status."""
+        """Ends the session, and returns the status with which the program would have ended."""
         return self._session.close()
 
     async def stop(self) -> int:
-        """Ends the session, and returns the program's status."""
+        """Does the same as `close`."""
         return self._session.stop()

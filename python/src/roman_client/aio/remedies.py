@@ -15,7 +15,7 @@ from .session import Session
 async def remedies(
     document: Document, report: Report, *, program: Program = "roman", two: bool = False
 ) -> AsyncIterator[Remedy]:
-    """The remedies of `roman_client.mend`, each as soon as it is found."""
+    """Yields the remedies of `roman_client.mend`, each as soon as it is found."""
     if report.composition:
         return
     async with Session.resume(Snapshot(document.with_states(report)), program=program) as session:
@@ -37,5 +37,5 @@ async def remedies(
 async def mend(
     document: Document, report: Report, *, program: Program = "roman", two: bool = False
 ) -> tuple[Remedy, ...]:
-    """The changes after which there is a composition, as `roman_client.mend` finds them."""
+    """Returns the changes after which there is a composition, as `roman_client.mend` does."""
     return tuple([each async for each in remedies(document, report, program=program, two=two)])

@@ -18,13 +18,13 @@ from .library import LibraryStreams
 from .streams import Streams, advance, run
 
 IN_A_ROW = 100
-"""After how many calls other tasks have a turn of the loop, though each reply comes at once."""
+"""The number of calls after which other tasks have a turn of the loop, even if each reply comes at once."""
 
 
 class Session:
     """A running program that answers the lines of a session, as `roman_client.Session` does.
 
-    `async with` begins it, and ends the program at the end of the block; or call `begin` and `close`. Calls
+    `async with` begins it, and ends the program at the end of the block. Alternatively, call `begin` and `close`. Calls
     of several tasks take turns. A call that is cancelled while it waits for a reply ends the program.
     """
 
@@ -38,7 +38,7 @@ class Session:
         longest: int = LONGEST,
         library: Library = False,
     ) -> None:
-        """For a document. The words are those of `roman_client.Session`; the program starts by `begin`."""
+        """The arguments are those of `roman_client.Session`. `begin` starts the program."""
         self.core = Conversation(system, program, folder, UNLIMITED if library else longest)
         self._timeout = timeout
         self._library = library
@@ -60,15 +60,14 @@ class Session:
         longest: int = LONGEST,
         library: Library = False,
     ) -> Session:
-        """A session that goes on from a snapshot, with the request that was open there. It starts by `begin`,
-        as another one."""
+        """Returns a session that continues from a snapshot, with its open request. `begin` starts the program."""
         session = cls("system.json", program=program, folder=folder, timeout=timeout, longest=longest, library=library)
         session._first = lambda: session.core.resume(snapshot)
         return session
 
     async def begin(self) -> Session:
-        """Starts the program on the document, and waits for its first report. Raises `ProgramEnded` where
-        the document is refused or over its limit."""
+        """Starts the program on the document, and waits for its first report. Raises `ProgramEnded` if the document is
+        refused or exceeds its limit, and OSError if the program can't be started."""
         self._turn = asyncio.Lock()
         try:
             self.opening = await self.run(self._first())
@@ -101,7 +100,7 @@ class Session:
         return await self.tell(protocol.freeze(service))
 
     async def thaw(self, service: str) -> Repair:
-        """Takes a frozen service into use again."""
+        """Takes a frozen service back into use."""
         return await self.tell(protocol.thaw(service))
 
     async def die(self, service: str) -> Repair:
@@ -109,23 +108,24 @@ class Session:
         return await self.tell(protocol.die(service))
 
     async def join(self, service: str, behaviour: str, state: str, *, loose: bool = False) -> Repair:
-        """Adds a service in that state of a behaviour of the catalogue."""
+        """Adds a service in a state of a behaviour of the catalogue. A loose service needn't rest when the target is
+        final."""
         return await self.tell(protocol.join(service, behaviour, state, loose=loose))
 
     async def jump(self, service: str, state: str) -> None:
-        """Sets the state of a service, whatever its transitions are."""
+        """Sets the state of a service. No transition has to lead there."""
         await self.tell(protocol.jump(service, state))
 
     async def jumpenv(self, environment: str) -> None:
-        """Sets the state of the environment, whatever its transitions are."""
+        """Sets the state of the environment. No transition has to lead there."""
         await self.tell(protocol.jumpenv(environment))
 
     async def report(self) -> Report:
-        """The present states, and what is offered from them."""
+        """Returns the present states, and the offers."""
         return await self.tell(protocol.report())
 
     async def explain(self) -> Explanation:
-        """Why the present pair isn't related. Raises `Related` if it is."""
+        """Returns why the present pair isn't related. Raises `Related` if it is."""
         return await self.tell(protocol.explain())
 
     async def quit(self) -> int:
@@ -147,7 +147,7 @@ class Session:
         return self._in_turn(value) if isinstance(value, CoroutineType) else value
 
     async def restore(self, snapshot: Snapshot) -> Report:
-        """Goes on from a snapshot in a new program, and returns the report of its states."""
+        """Continues from a snapshot in a new program, and returns the report of its states."""
         return await self.run(self.core.resume(snapshot))
 
     async def snapshot(self) -> Snapshot:
@@ -155,7 +155,7 @@ class Session:
         be read from here."""
         return await self.run(self.core.snapshot())
 
-    # Its end.
+    # State, and the end.
 
     @property
     def changes(self) -> int:
@@ -169,12 +169,12 @@ class Session:
 
     @property
     def pid(self) -> int:
-        """The process ID of the program."""
+        """The process ID of the program. In a session by the library, it is that of this process."""
         return self._running().pid
 
     @property
     def room(self) -> int:
-        """The number of bytes that the present program still takes."""
+        """The number of bytes of lines that the present program still accepts."""
         return self.core.longest - self.core.sent
 
     async def close(self) -> int:
@@ -192,10 +192,10 @@ class Session:
     ) -> None:
         await self.close()
 
-    # Its steps.
+    # Steps.
 
     async def run(self, steps: Steps[Value]) -> Value:
-        """Carries out the steps of the session."""
+        """Performs steps of the session, and returns their value."""
         if self._turn is None:
             raise NotBegun("the session wasn't begun")
         self._calls += 1
@@ -209,14 +209,14 @@ class Session:
             return await work
 
     def _perform(self, effect: Effect) -> Any:
-        """Does one step of the session, or gives the coroutine that does it."""
+        """Performs one effect, or returns the coroutine that performs it."""
         if isinstance(effect, Exchange):
             return self._running().exchange(effect)
         if isinstance(effect, Start):
             return self._start(effect)
         if isinstance(effect, Stop):
             return self._running().stop()
-        raise TypeError(f"{effect!r} is no step of a session")
+        raise TypeError(f"{effect!r} isn't an effect of a session")
 
     async def _start(self, start: Start) -> None:
         before = self._streams

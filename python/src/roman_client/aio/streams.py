@@ -15,8 +15,8 @@ from ..errors import NoReply, ProgramEnded
 from ..protocol import Effect, Exchange, Start, Steps, Value, is_farewell
 
 MOMENT = 1
-"""How many milliseconds `exchange` waits for a reply before it returns a coroutine. Most replies come in a twentieth of
-one, which isn't worth a turn of the loop."""
+"""The number of milliseconds that `exchange` waits for a reply before it returns a coroutine. Most replies come within
+0.05 milliseconds, which isn't worth a turn of the loop."""
 
 INPUT, ERRORS = 0, 2
 """The pipes that the loop reads and writes. `Streams` reads the program's output itself."""
@@ -195,7 +195,7 @@ class Streams(asyncio.SubprocessProtocol):
         else:
             self._reply.set_exception(NoReply(f"no whole reply within {self._timeout} seconds"))
 
-    # Its end.
+    # The end.
 
     async def _ending(self) -> ProgramEnded:
         """Returns how the program ended, with its last output. A program that only closed its output is ended."""
