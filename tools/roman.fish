@@ -27,15 +27,15 @@ for tool in roman-lint roman-expand roman-draw roman-talk roman-advice roman-men
     complete -c $tool -k -a '(__fish_complete_suffix .json)'
 end
 for tool in roman-lint roman-draw roman-talk roman-advice roman-mend
-    complete -c $tool -l program -r -d 'the program that answers'
+    complete -c $tool -l program -r -d 'the program to call'
 end
 for tool in roman-expand roman-draw
     complete -c $tool -s o -r -d 'write to this file'
 end
 complete -c roman-lint -l json -d 'write a JSON value, for editors'
-complete -c roman-lint -l all -d 'show what follows from a finding, too'
-complete -c roman-lint -l strict -d 'end with status 1 where there are warnings'
-complete -c roman-lint -l no-program -d 'do not ask the program'
+complete -c roman-lint -l all -d 'also show consequences of a finding'
+complete -c roman-lint -l strict -d 'end with status 1 if there are warnings'
+complete -c roman-lint -l no-program -d 'do not call the program'
 complete -c roman-mend -l two -d 'try pairs of changes if no single one helps'
 complete -c roman-mend -l spare -d 'write which further service makes up for any failure'
 complete -c roman-expand -l map -r -d 'write where each name and step comes from'
@@ -43,11 +43,11 @@ complete -c roman-expand -l costs -r -d 'write the plain form of these costs'
 complete -c roman-draw -l explanation -r -d 'draw the last explanation in a file'
 complete -c roman-draw -l why -d 'draw why there is no composition'
 complete -c roman-draw -l offers -d 'draw what can happen when offers are followed'
-complete -c roman-draw -l all -d 'the whole game of an explanation'
+complete -c roman-draw -l all -d 'draw the whole game of an explanation'
 complete -c roman-draw -l first -d 'write the first step of an explanation'
 complete -c roman-draw -l text -d 'write the explanation in words'
 complete -c roman-draw -l dot -d 'write the text for Graphviz'
-complete -c roman-advice -l from -r -d 'take what advise wrote from a file'
+complete -c roman-advice -l from -r -d 'read the output of advise from a file'
 complete -c roman-advice -l all -d 'show all rows'
 
 complete -c roman-live -k -a '(__fish_complete_suffix .toml)'

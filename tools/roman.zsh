@@ -3,12 +3,12 @@
 
 _roman_tool() {
     local -a options
-    local program='--program[the program that answers]:program:_files'
+    local program='--program[the program to call]:program:_files'
     case $service in
         *lint)
-            options=('--json[write a JSON value, for editors]' '--all[show what follows from a finding, too]'
-                '--strict[end with status 1 where there are warnings]'
-                $program "--no-program[don't ask the program]")
+            options=('--json[write a JSON value, for editors]' '--all[also show consequences of a finding]'
+                '--strict[end with status 1 if there are warnings]'
+                $program "--no-program[don't call the program]")
             ;;
         *expand)
             options=('-o[write to this file]:file:_files' '--map[write where each name and step comes from]:file:_files'
@@ -17,12 +17,14 @@ _roman_tool() {
         *draw)
             options=('--explanation[draw the last explanation in a file]:file:_files'
                 '--why[draw why there is no composition]' '--first[write the first step of an explanation]'
-                '--offers[draw what can happen when offers are followed]' '--all[the whole game of an explanation]'
+                '--offers[draw what can happen when offers are followed]' '--all[draw the whole game of an explanation]'
                 '--text[write the explanation in words]' '-o[write to this file]:file:_files'
                 '--dot[write the text for Graphviz]' $program)
             ;;
         *talk) options=($program) ;;
-        *advice) options=('--from[take what advise wrote from a file]:file:_files' '--all[show all rows]' $program) ;;
+        *advice)
+            options=('--from[read the output of advise from a file]:file:_files' '--all[show all rows]' $program)
+            ;;
         *mend)
             options=('--two[try pairs of changes if no single one helps]'
                 '--spare[write which further service makes up for any failure]' $program

@@ -1,7 +1,7 @@
-"""Shared parts of the tools: documents with the places of their words, and findings.
+"""Shared parts of the tools: documents whose words have places, and findings.
 
-`reader` gives values with their places; `checks` finds every refusal of the format in them, and
-`cautions` what is accepted and probably not meant; `lint` shows both. `short_form` expands the short form.
+`reader` reads values with their places. `checks` finds every refusal of the format in them. `cautions` finds what the
+program accepts and the author probably doesn't mean. `lint` shows both. `short_form` expands the short form.
 """
 
 import os
@@ -22,8 +22,8 @@ def need(*modules: str) -> None:
 
 
 def finished(main: Callable[[], int]) -> int:
-    """The status of a tool, also if its output can't be written. If the reader of the output goes away, the tool
-    ends without a message, as other filters do."""
+    """Runs a tool, and returns its status, also if the output can't be written. If the reader of the output goes away,
+    the tool ends without a message, as other filters do."""
     try:
         status = main()
         sys.stdout.flush()
@@ -32,7 +32,7 @@ def finished(main: Callable[[], int]) -> int:
         if not isinstance(error, BrokenPipeError):
             what = "what it writes" if error.filename is None else error.filename
             print(f"{Path(sys.argv[0]).name}: {what} can't be written: {error.strerror}", file=sys.stderr)
-        # What is still in the buffer would be written once more at the end.
+        # Otherwise the rest of the buffer would be written again at the end.
         os.dup2(os.open(os.devnull, os.O_WRONLY), sys.stdout.fileno())
         return UNWRITTEN
 

@@ -1,4 +1,4 @@
-"""The actions of plans beside those of the environment and of the services."""
+"""Compares the actions of plans with those of the environment and the services."""
 
 from __future__ import annotations
 
@@ -10,7 +10,7 @@ from .findings import meant
 from .reader import Span
 
 Places = Mapping[str, Span]
-"""Actions, each with the place where it is named first."""
+"""Actions, each with its first place."""
 
 
 @dataclass(frozen=True)
@@ -21,7 +21,7 @@ class Actions:
     moved: Places
     served: Places
     idle: Mapping[str, str]
-    """The actions that no service has, but a behaviour: its name."""
+    """The actions that a behaviour has and no service, each with the name of the behaviour."""
 
     def faults(self) -> Iterator[tuple[Span, str]]:
         """The requests that can't be served, each with the mistake: a similar action that is used nowhere else, if
@@ -34,7 +34,7 @@ class Actions:
                 yield self._stray(action, self.served, self.moved) or (span, self._unserved(action))
 
     def _stray(self, action: str, there: Places, elsewhere: Places) -> tuple[Span, str] | None:
-        """The place of an action that is used in one part alone, if it is nearly that one."""
+        """The place of an action with a similar name that is used only in one part, if there is one."""
         lonely = [each for each in there if each not in elsewhere and each not in self.planned]
         for near in difflib.get_close_matches(action, lonely, 1):
             return there[near], f'"{near}" is used only here{meant(near, [action])}'

@@ -1,9 +1,9 @@
-"""roman-advice SYSTEM COSTS H: what `advise` says, as a table with the names of states.
+"""roman-advice SYSTEM COSTS H: the output of `advise`, as a table with the names of states.
 
-It asks the program what the next H requests cost at worst, and lists the states to which the advised services lead
-from the start: for each request that is allowed there, the service that costs least, and the worst cost of this and
-the following requests, H in all. --from takes what `advise` wrote from a file, `-` for the standard input. SYSTEM may
-be in the short form; then an item of COSTS may name a pattern or a service. The status is that of the program.
+Asks the program what the next H requests cost at worst, and lists the states to which the advised services lead from
+the start. For each request that is allowed there, shows the service that costs least, and the worst cost of this and
+the following requests, H in all. --from reads the output of `advise` from a file, `-` for the standard input. SYSTEM
+may be in the short form; an item of COSTS may then name a pattern or a service. The status is that of the program.
 """
 
 from __future__ import annotations
@@ -25,15 +25,15 @@ from .offers_picture import Arena, Pair
 from .pictures import Wrong
 
 MOST = 100
-"""How many rows the table has without --all."""
+"""The maximum number of rows of the table without --all."""
 
 NUMBER = "([0-9]{1,20})"
-"""A number in what `advise` writes."""
+"""A number in the output of `advise`."""
 
 
 @dataclass(frozen=True)
 class Choice:
-    """The service that costs least for a request, and what this and the following requests cost at worst then."""
+    """The service that costs least for a request, with the worst cost of this and the following requests."""
 
     request: str
     service: str
@@ -42,7 +42,7 @@ class Choice:
 
 
 class Advice:
-    """What `advise` wrote, looked up in its document."""
+    """The output of `advise` for a document."""
 
     def __init__(self, arena: Arena, costs: dict[tuple[str, str], int], text: str) -> None:
         self.arena = arena
@@ -53,7 +53,7 @@ class Advice:
         self.horizon = max((horizon for horizon, _ in self.values), default=0)
 
     def value(self, horizon: int, pair: Pair) -> int | None:
-        """What so many requests cost at worst from a pair; None if the target can't go on from it."""
+        """The worst cost of so many requests from a pair, None if the target can't continue from it."""
         number = self.arena.number(pair)
         if (1, number) not in self.values:
             return None
@@ -90,7 +90,7 @@ class Advice:
 
 
 def table(advice: Advice, most: int | None) -> Iterator[str]:
-    """The lines of the table, its columns as wide as they need to be."""
+    """The lines of the table, with aligned columns."""
     arena, horizon = advice.arena, advice.horizon
     rows = [("target", "environment", "services not at the start", "request", "take", f"next {horizon} at worst")]
     count = 0
@@ -108,7 +108,7 @@ def table(advice: Advice, most: int | None) -> Iterator[str]:
 
 
 def written_by(asked: argparse.Namespace, document: str, costs: str) -> tuple[int, str]:
-    """The status of `advise`, and what it writes; what a file has of it, with status 0."""
+    """The status and the output of `advise`. If the output is in a file, the status is 0."""
     if asked.source is not None:
         data = sys.stdin.buffer.read() if asked.source == "-" else Path(asked.source).read_bytes()
         return CLEAN, data.decode(errors="replace")
@@ -128,10 +128,10 @@ def main(arguments: Sequence[str] | None = None) -> int:
     words = argparse.ArgumentParser(prog="roman-advice", description=(__doc__ or "").split("\n\n")[1])
     words.add_argument("system", metavar="SYSTEM")
     words.add_argument("costs", metavar="COSTS")
-    words.add_argument("horizon", metavar="H", help="how many requests, 1 to 64")
-    words.add_argument("--from", dest="source", metavar="FILE", help="a file with what advise wrote for H requests")
-    words.add_argument("--all", action="store_true", help=f"show all rows, not {MOST} alone")
-    words.add_argument("--program", metavar="ROMAN", help="the program that is asked")
+    words.add_argument("horizon", metavar="H", help="the number of requests, 1 to 64")
+    words.add_argument("--from", dest="source", metavar="FILE", help="a file with the output of advise for H requests")
+    words.add_argument("--all", action="store_true", help=f"show all rows, not only {MOST}")
+    words.add_argument("--program", metavar="ROMAN", help="the program to call")
     asked = words.parse_args(arguments)
     try:
         checker = read(asked.system)
@@ -153,7 +153,7 @@ def main(arguments: Sequence[str] | None = None) -> int:
         rows = list(table(advice, None if asked.all else MOST))
     except OSError as error:
         if error.filename is None:
-            raise  # What it writes can't be written.
+            raise  # The output can't be written.
         print(f"roman-advice: {error.filename}: {error.strerror}", file=sys.stderr)
         return UNREADABLE
     except Wrong as error:

@@ -18,7 +18,7 @@ from .repairs import with_final, with_guards, with_moves, with_requests, with_wa
 from .walk import Stuck, Walk
 
 OWN = {"comment", "description", "note", "notes", "title"}
-"""Members for people, beside those whose names begin with `$`."""
+"""Members for people, in addition to those whose names begin with `$`."""
 
 
 def warning(span: Span, message: str) -> Finding:
@@ -65,7 +65,7 @@ def ignored(part: Part, version: int) -> Iterator[Finding]:
 # The system.
 
 Mended = Callable[[], Document]
-"""Makes the document as it would be without the cause of a finding."""
+"""Returns the document without the cause of a finding."""
 
 Judged = tuple[Finding, Optional[Mended]]
 
@@ -173,7 +173,7 @@ class Judge:
                 yield warning(span_of(service.name), message), None
 
     def left_in(self) -> str | None:
-        """A state in which the target may be left. Of several targets each must have one."""
+        """A final state that the target reaches, None if there is none. With several targets, each must reach one."""
         found = None
         for seat, target in enumerate(self.document.targets):
             left = self.walk.reached(seat) & target.final
@@ -240,14 +240,14 @@ class Judge:
 
 
 MOST_CAUSES = 40
-"""For how many causes their consequences are determined."""
+"""The maximum number of causes whose consequences are determined."""
 
 MOST_STEPS = 1_000_000
-"""About how many steps of targets are walked to determine them."""
+"""The approximate number of steps of targets that are walked to determine them."""
 
 
 def judged(document: Document) -> list[Finding]:
-    """The findings in a document, each cause before its consequences, which wouldn't be found without it."""
+    """The findings in a document, each cause before its consequences. Consequences aren't found without their cause."""
     judge = Judge(document)
     mends = dict(judge.judged())
     findings = in_order(mends)

@@ -1,7 +1,7 @@
-"""Files of costs: every refusal in them, what is probably not meant, and the plain costs of a short document.
+"""Files of costs: the refusals in them, the warnings, and the plain costs of a short document.
 
-Beside a short document an item may name a behaviour, a pattern, which means all behaviours that are made from it, or a
-service. A service's item counts before that of its behaviour, and this before that of its pattern.
+For a short document an item may name a behaviour, a service, or a pattern, which means all behaviours that are made
+from it. The item of a service takes precedence over that of its behaviour, and this over that of its pattern.
 """
 
 from __future__ import annotations
@@ -32,11 +32,11 @@ class Cost:
 
 @dataclass
 class Costs:
-    """A file of costs that was read: its items, and what is found in it."""
+    """A file of costs that was read: its items, and the findings in it."""
 
     name: str
     short: bool
-    """Whether it stands beside a short document."""
+    """Whether it belongs to a short document."""
     items: list[Cost] = field(default_factory=list)
     findings: list[Finding] = field(default_factory=list)
 
@@ -50,7 +50,7 @@ class Costs:
 
 
 class Reader:
-    """Reads a file of costs beside a document."""
+    """Reads a file of costs for a document."""
 
     def __init__(self, checker: Checker, document: Document, name: str) -> None:
         self.checker = checker
@@ -61,11 +61,11 @@ class Reader:
 
     @property
     def names(self) -> set[str]:
-        """What an item may name."""
+        """The names that an item may have."""
         return {*self.document.behaviours, *self.services, *self.patterns}
 
     def read(self) -> Costs:
-        """Reads all items. OSError if the file can't be read."""
+        """Reads all items. Raises OSError if the file can't be read."""
         source, size = self.checker.shelf.source(self.costs.name)
         start = Span(source, 0, 1)
         if size > LONGEST_DOCUMENT:
@@ -125,14 +125,14 @@ class Reader:
         return None
 
     def items_of(self, behaviour: str, action: str) -> list[Cost]:
-        """The items that say what an action costs of a behaviour, those that count first."""
+        """The items with the cost of an action of a behaviour, in the order of precedence."""
         services = {name for name, each in self.services.items() if each.behaviour == behaviour}
         ranks = [services - set(self.document.behaviours), {behaviour}, {self.checker.patterns.get(behaviour, "")}]
         found = [each for each in self.costs.items if each.action == action]
         return [each for names in ranks for each in found if each.name in names]
 
     def shared(self) -> None:
-        """Services that cost differently, and are of one behaviour, of which there is one cost alone."""
+        """Warns of services of one behaviour that have different costs: the behaviour has only one."""
         for each in self.costs.items:
             service = self.services.get(each.name)
             if service is None or each.name in self.document.behaviours:
@@ -145,7 +145,7 @@ class Reader:
                 self.costs.fault("unknown", "steps", 0, each.span, message)
 
     def missing(self, at: Span) -> list[Finding]:
-        """The behaviours that serve requests, and have no item."""
+        """Warns of behaviours that serve requests, and have no item."""
         requested = Walk(self.document).requested
         found = []
         for behaviour in self.document.behaviours.values():
@@ -169,6 +169,6 @@ class Reader:
         return found
 
     def plain(self) -> str:
-        """The costs as the program reads them."""
+        """The costs in the form that the program reads."""
         lines = [f"  {json.dumps([*names, cost])}" for names, cost in self.by_behaviour().items()]
         return "[\n" + ",\n".join(lines) + "\n]\n" if lines else "[]\n"

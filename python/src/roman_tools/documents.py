@@ -17,8 +17,8 @@ from .writer import written
 
 
 def read(name: str, shelf: Shelf | None = None) -> Checker:
-    """A checker that has read a file, and has its plain document if nothing is refused. OSError if the file can't be
-    read."""
+    """Reads a file, and returns its checker, which has the plain document if nothing is refused. Raises OSError if the
+    file can't be read."""
     checker = Checker(name, shelf)
     value = checker.fetch(name, (name, "system", 0))
     if value is None:
@@ -33,14 +33,14 @@ def read(name: str, shelf: Shelf | None = None) -> Checker:
     plain = Expander(checker).expand(value)
     if plain is not None:
         checker.check(plain)
-    # The numbers of steps in a refusal would be those of the plain document, which nobody sees.
+    # The numbers of steps in a refusal would be those of the plain document, which isn't shown.
     checker.findings = [dataclasses.replace(each, refusal=None) for each in checker.findings]
     return checker
 
 
 def unnamed_form(value: Members, first: Finding) -> Finding:
-    """The one finding in a document of the short form that names a version of the plain one. The program refuses it
-    for the first of the others."""
+    """The only finding in a document in the short form whose version is that of a plain one. The program's reason for
+    its refusal is `first`."""
     version = value.get("roman")
     span = value.span.head if version is None else version.span
     return dataclasses.replace(
@@ -50,7 +50,7 @@ def unnamed_form(value: Members, first: Finding) -> Finding:
 
 @contextlib.contextmanager
 def plain_file(document: Document) -> Iterator[str]:
-    """A file with a plain document, for a program that reads no short ones."""
+    """A temporary file with a plain document, for the program, which doesn't read the short form."""
     with tempfile.NamedTemporaryFile("w", suffix=".json", encoding="utf-8") as file:
         file.write(written(document).text)
         file.flush()

@@ -1,11 +1,10 @@
 """roman-draw SYSTEM [--explanation FILE [--all] [--text] | --offers] [-o SVG] [--dot]
 
-Draws a system document as one SVG: the environment, each behaviour and the target, and what roman-lint finds in
-them. With --explanation, draws the last explanation in FILE (`-` for the standard input), as `explain` writes it:
-one line of the game that an opponent wins, or with --all the whole game; --text writes it in words. With --offers,
-draws what can happen from the start when offered services are used. The drawing goes to the standard output, or to
-the file after -o. --dot writes the text for Graphviz in place of the SVG. Names of part files count from the
-working folder.
+Draws a system document as one SVG: the environment, each behaviour and the target, and the findings of roman-lint.
+With --explanation, draws the last explanation in FILE (`-` for the standard input), as `explain` writes it: one line of
+the game that an opponent wins, or the whole game with --all. --text writes it in words. With --offers, draws what can
+happen from the start when offered services are used. The drawing goes to the standard output, or to the file after -o.
+--dot writes the text for Graphviz in place of the SVG. Names of part files are relative to the working folder.
 """
 
 from __future__ import annotations
@@ -26,7 +25,7 @@ from .system_picture import Picture
 
 
 def document_of(name: str) -> Document:
-    """A document that breaks no rule."""
+    """Reads a document that breaks no rule. Raises Wrong if it breaks one."""
     checker = read(name)
     if checker.document is None:
         raise Wrong(checker.findings[0].heading)
@@ -34,7 +33,7 @@ def document_of(name: str) -> Document:
 
 
 def system_picture(name: str) -> Any:
-    """A document as it stands, with what is found in it."""
+    """The picture of a document, which may have errors, with the findings in it."""
     checker = read(name)
     if not any(part.word == "environment" for part in checker.parts):
         raise Wrong(checker.findings[0].heading)
@@ -65,7 +64,7 @@ def why_of(document: Document, name: str, asked: argparse.Namespace) -> explanat
 
 
 def offers_of(document: Document, roman: str | None) -> Any:
-    """What is offered from the start, by the program's own certificate."""
+    """The picture of the offers from the start, by the program's certificate."""
     found = program.find(roman)
     if found is None:
         raise Wrong("the program isn't here, which says what is offered; ./build makes it")
@@ -77,7 +76,7 @@ def offers_of(document: Document, roman: str | None) -> Any:
 
 
 def drawn(asked: argparse.Namespace) -> str:
-    """The drawing or the text that the words ask for."""
+    """The drawing or the text that the options ask for."""
     if asked.explanation is not None or asked.why:
         document = document_of(asked.system)
         play = why_of(document, asked.system, asked) if asked.why else play_of(document, asked.explanation)
@@ -100,18 +99,18 @@ def main(arguments: Sequence[str] | None = None) -> int:
     kinds.add_argument("--explanation", metavar="FILE", help="draw the last explanation in FILE")
     kinds.add_argument("--why", action="store_true", help="draw why there is no composition from the starting states")
     kinds.add_argument("--offers", action="store_true", help="draw what can happen when offers are followed")
-    words.add_argument("--all", action="store_true", help="the whole game of an explanation")
+    words.add_argument("--all", action="store_true", help="draw the whole game of an explanation")
     words.add_argument("--first", action="store_true", help="write the first step of an explanation in words")
     words.add_argument("--text", action="store_true", help="write the explanation in words")
     words.add_argument("-o", metavar="SVG", dest="out", help="write to this file")
     words.add_argument("--dot", action="store_true", help="write the text for Graphviz")
-    words.add_argument("--program", metavar="ROMAN", help="the program that says what is offered")
+    words.add_argument("--program", metavar="ROMAN", help="the program to call")
     asked = words.parse_args(arguments)
     try:
         data = drawn(asked).encode("utf-8", "replace")
     except OSError as error:
         if error.filename is None:
-            raise  # What it gives the program can't be written.
+            raise  # The input of the program can't be written.
         print(f"roman-draw: {error.filename}: {error.strerror}", file=sys.stderr)
         return 1
     except Wrong as error:

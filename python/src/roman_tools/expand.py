@@ -1,10 +1,9 @@
 """roman-expand FILE: the plain document of a short one.
 
-The plain document is of the least version, and says everything in the shortest way; expanding it again gives
-the same text. With --costs it writes the plain costs of a file of costs instead, in which items may name patterns and
-services. Mistakes are shown at their places in the short one. The status is 3 if there are some, 5 if the
-file can't be read, 7 if the output can't be written, and 0 otherwise. Part files are put in
-place.
+Writes the plain document, which has the least possible version and the shortest form. Expanding it again gives the same
+text. Part files are put in place. With --costs, writes the plain form of a file of costs instead, in which items may
+name patterns and services. Mistakes are shown at their places in the short document. The status is 3 if there are some,
+5 if the file can't be read, 7 if the output can't be written, and 0 otherwise.
 """
 
 from __future__ import annotations

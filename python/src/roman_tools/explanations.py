@@ -1,4 +1,4 @@
-"""Explanations of the program in words: the requests, the services that can't serve them, and what changes."""
+"""The program's explanations in words: the requests, the services that can't serve them, and the changes."""
 
 from __future__ import annotations
 
@@ -18,7 +18,7 @@ Outcome = tuple[str, str]
 
 
 def last_explanation(text: str) -> Explanation | None:
-    """The last explanation in a text, which may have other replies too; None if there is none."""
+    """The last explanation in a text, which may have other replies, too. None if there is none."""
     found: list[str] = []
     lines: list[str] = []
     for line in text.splitlines():
@@ -35,8 +35,8 @@ def last_explanation(text: str) -> Explanation | None:
 
 @dataclass(frozen=True)
 class Reply:
-    """What services that are alike may answer: their names, the change of the first one, and the entry to which
-    that leads."""
+    """A possible answer of services that are alike: their names, the change of the first one, and the entry to which it
+    leads."""
 
     names: tuple[str, ...]
     seat: int
@@ -46,11 +46,11 @@ class Reply:
 
 
 Step = tuple[int, Optional[Reply], list[Reply]]
-"""An entry of a line of play, the answer that is followed, and the other ones."""
+"""An entry of a line of play, the answer that is followed, and the other answers."""
 
 
 class Play:
-    """An explanation with the ways from each answer to the entry that it leads to."""
+    """An explanation, with the entry to which each answer leads."""
 
     def __init__(self, document: Document, explanation: Explanation) -> None:
         self.document = document
@@ -64,7 +64,7 @@ class Play:
         self.kinds = [self.kind_of(seat) for seat in range(self.count)]
         self.frozen = self.find_frozen()
 
-    # Which service is which.
+    # The services of an explanation.
 
     def target_after(self, entry: Lost) -> str | None:
         """The target's state after the request of an entry, or None if the document has none."""
@@ -87,7 +87,7 @@ class Play:
         return found if found is not None and found < number else None
 
     def fits(self, name: str, seat: int) -> bool:
-        """Whether all answers of that name lead somewhere, if it has that place."""
+        """Whether all answers of a service lead to an entry, if it has that place."""
         return all(
             self.led_to(number, seat, answer.outcome) is not None
             for number, entry in enumerate(self.entries)
@@ -96,8 +96,8 @@ class Play:
         )
 
     def find_seats(self) -> dict[str, int]:
-        """The place of each service that answers. The document's order, where it fits; services may have died
-        and joined since, and then the places are those to which all their answers lead."""
+        """The place of each service that answers. It is that of the document if this fits. Services may have died and
+        joined since; then it is a place with which all answers of the service lead to entries."""
         named = in_order([[answer.service for answer in each.answers] for each in self.entries])
         usual = {each.name: seat for seat, each in enumerate(self.document.services)}
         if self.count == len(usual) and all(name in usual and self.fits(name, usual[name]) for name in named):
@@ -109,7 +109,8 @@ class Play:
         return dict(zip(named, seats))
 
     def all_names(self) -> list[str]:
-        """The name of each place; of one that never answers the document's, where that can be told."""
+        """The name of the service at each place. A service that never answers has the name in the document, if it is
+        known."""
         names = {seat: name for name, seat in self.seats.items()}
         services = [each.name for each in self.document.services]
         usual = self.count == len(services) and all(services[seat] == name for seat, name in names.items())
@@ -119,8 +120,8 @@ class Play:
         return [names[seat] for seat in range(self.count)]
 
     def kind_of(self, seat: int) -> tuple[Machine, bool] | None:
-        """The behaviour of a place, and whether its service rests: the document's, or the only behaviour that
-        has the states that are seen there."""
+        """The behaviour of a place, and whether its service rests. The behaviour is that of the document, or the only
+        one that has the states at this place."""
         for service in self.document.services:
             if service.name == self.names[seat]:
                 return self.document.behaviours[service.behaviour], not service.loose
@@ -129,16 +130,17 @@ class Play:
         return (fitting[0], True) if len(fitting) == 1 else None
 
     def find_frozen(self) -> set[int]:
-        """The places that are never asked, where somebody would be."""
+        """The places of frozen services, which never answer. If no entry has a request, they are those that the
+        document freezes."""
         if not all(entry.request is None for entry in self.entries):
             return set(range(self.count)) - set(self.seats.values())
         frozen = {each.name for each in self.document.services if each.frozen}
         return {seat for seat, name in enumerate(self.names) if name in frozen}
 
-    # What happens.
+    # The course of the game.
 
     def unrested(self, number: int) -> str:
-        """Which services keep the target from being left."""
+        """A text that names the services that aren't in a final state, but have to be."""
         told = []
         for seat, state in enumerate(self.entries[number].states):
             kind = self.kinds[seat]
@@ -148,8 +150,8 @@ class Play:
         return f"{names} {'are' if len(told) > 1 else 'is'} in no final state"
 
     def is_forced(self, number: int) -> bool:
-        """Whether nobody has a choice at an entry: the target allows one request alone, and one service can take it,
-        in one way."""
+        """Whether an entry leaves no choice: the target allows a single request, and a single service can take it, in a
+        single way."""
         entry = self.entries[number]
         able = [each.service for each in entry.answers if each.outcome is not None]
         if entry.request is None or len(able) != 1 or entry.environment not in self.document.environment.states:
@@ -161,7 +163,7 @@ class Play:
         return len(list(self.document.outcomes(kind[0].name, state, entry.environment, entry.request))) == 1
 
     def answers(self, number: int) -> list[Reply]:
-        """What may be answered at an entry. Services that are alike, and may answer alike, are one."""
+        """The possible answers at an entry. Services that are alike, and may answer alike, count as one."""
         entry = self.entries[number]
         found: dict[object, Reply] = {}
         for name, outcome in ((answer.service, answer.outcome) for answer in entry.answers):
@@ -180,7 +182,7 @@ class Play:
         return list(found.values())
 
     def lengths(self) -> list[int]:
-        """How many requests the opponent still needs at each entry, if the answer is the one that ends soonest."""
+        """The number of requests that the opponent still needs at each entry, if the answers end the game soonest."""
         after = {i: [each.to for each in self.answers(i)] for i in range(len(self.entries))}
         lengths = [0] * len(self.entries)
         for number in graphlib.TopologicalSorter(after).static_order():
@@ -189,7 +191,7 @@ class Play:
         return lengths
 
     def line(self) -> list[Step]:
-        """One line of play, the shortest: each entry with the answer that is followed, and the other ones."""
+        """The shortest line of play: each entry with the answer that is followed, and the other answers."""
         lengths = self.lengths()
         number = len(self.entries) - 1
         line = []
@@ -212,7 +214,7 @@ class Play:
         return [(number, None, []) for number in seen]
 
     def chained(self) -> list[list[Step]]:
-        """The shortest line of play, with steps in a row in which nobody has a choice as one."""
+        """The shortest line of play. Consecutive steps without a choice count as one."""
         chains: list[list[Step]] = []
         for step in self.line():
             if chains and self.is_forced(chains[-1][-1][0]) and self.is_forced(step[0]):
@@ -222,7 +224,7 @@ class Play:
         return chains
 
     def served(self, chain: Sequence[Step]) -> str:
-        """The requests of a chain, each with who serves it."""
+        """The requests of a chain, each with the service that serves it."""
         return ", ".join(f"{self.entries[number].request} by {reply.names[0]}" for number, reply, _ in chain if reply)
 
     def changes(self, number: int) -> list[str]:
@@ -242,7 +244,7 @@ class Play:
         ]
 
     def answer_text(self, number: int, answer: Reply) -> str:
-        """An answer as what changes by it."""
+        """The changes by an answer."""
         state, environment = answer.outcome
         text = f"{state}, as before" if state == answer.before else f"{answer.before} → {state}"
         before = self.entries[number].environment
@@ -254,7 +256,7 @@ class Play:
         return "\n".join(self.text_lines(everything)) + "\n"
 
     def first_step(self) -> list[str]:
-        """The lines up to the first request at which somebody has a choice, or nobody can take it."""
+        """The lines up to the first request that leaves a choice, or that no service can take."""
         lines = list(self.text_lines(False))
         starts = [at for at, line in enumerate(lines) if not line.startswith(" ")] + [len(lines)]
         return lines[: starts[2 if len(self.chained()[0]) > 1 else 1]]
@@ -295,8 +297,8 @@ class Play:
     # As a picture.
 
     def picture(self, everything: bool) -> Any:
-        """The pairs as boxes, the requests of the opponent as diamonds, the services' answers as arrows. Steps in a
-        row in which nobody has a choice are one dotted arrow."""
+        """The picture: pairs are boxes, requests of the opponent are diamonds, and answers of services are arrows.
+        Consecutive steps without a choice are one dotted arrow."""
         picture = graph("TB")
         picture.node("start", shape="point", width="0.12", label="", tooltip="the present pair")
         picture.edge("start", f"p{len(self.entries) - 1}")
@@ -312,7 +314,7 @@ class Play:
         return picture
 
     def chain(self, picture: Any, chain: Sequence[Step]) -> None:
-        """Steps in which nobody has a choice."""
+        """Draws consecutive steps without a choice."""
         last = chain[-1][1]
         assert last is not None
         words = [
@@ -324,7 +326,7 @@ class Play:
         picture.edge(f"p{chain[0][0]}", f"p{last.to}", label=label, style="dotted", color=GUARD)
 
     def request(self, picture: Any, number: int, answers: Sequence[Reply], rest: Sequence[Reply]) -> None:
-        """The request of an entry, who can't take it, and the answers that are followed."""
+        """Draws the request of an entry, the services that can't take it, and the answers that are followed."""
         picture.node(f"r{number}", label=self.entries[number].request, shape="diamond", color=GUARD, fontcolor=GUARD)
         picture.edge(f"p{number}", f"r{number}", color=GUARD, arrowhead="none")
         told = self.helpless(number)
@@ -349,7 +351,7 @@ class Play:
 
 
 def in_order(lists: Sequence[Sequence[str]]) -> list[str]:
-    """The names of all lists, in an order that each list follows. In each they stand in the services' order."""
+    """The names of all lists, in an order that each list follows. Each list has the order of the services."""
     after: dict[str, list[str]] = {}
     for names in lists:
         for name in names:
@@ -363,7 +365,7 @@ def in_order(lists: Sequence[Sequence[str]]) -> list[str]:
 
 
 def rising(choices: Sequence[Sequence[int]], least: int) -> list[int] | None:
-    """A number of each list, each greater than the one before."""
+    """A number from each list, each greater than the one before."""
     if not choices:
         return []
     for seat in choices[0]:

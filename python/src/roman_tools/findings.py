@@ -45,11 +45,11 @@ class Finding:
     message: str
     refusal: Refusal | None = None
     part: tuple[str, int] | None = field(default=None, compare=False)
-    """The kind and the number of the part that it is about, if several parts share its place."""
+    """The kind and the number of its part, if several parts share its place."""
     cause: Finding | None = field(default=None, compare=False)
-    """The finding that it follows from, or repeats."""
+    """The finding from which it follows, or which it repeats."""
     consequences: int = field(default=0, compare=False)
-    """How many findings follow from it, or repeat it."""
+    """The number of findings that follow from it, or repeat it."""
 
     @property
     def heading(self) -> str:
@@ -58,7 +58,7 @@ class Finding:
 
     @property
     def more(self) -> str:
-        """How many findings follow from it, or repeat it, in words."""
+        """The number of its consequences and repetitions, in words."""
         if not self.consequences:
             return ""
         if self.level is Level.ERROR:
@@ -93,7 +93,7 @@ class Finding:
 
 
 def printable(text: str) -> str:
-    """The text with what can't be written, as half of a character, replaced. Tabs stay."""
+    """The text without characters that can't be written, such as single surrogates. They are replaced; tabs stay."""
     text = text.encode("utf-8", "replace").decode("utf-8")
     return "".join(letter if letter == "\t" or letter.isprintable() else "\ufffd" for letter in text)
 
@@ -106,7 +106,7 @@ def in_order(findings: Iterable[Finding]) -> list[Finding]:
 
 
 def grouped(findings: Sequence[Finding], causes: dict[Finding, Finding]) -> list[Finding]:
-    """Findings with what they follow from: warnings with consequences first, each before its own."""
+    """The findings with their causes. Warnings with consequences come first, each before its own consequences."""
     followers: dict[Finding, list[Finding]] = {}
     for each, cause in causes.items():
         followers.setdefault(cause, []).append(each)
@@ -120,7 +120,7 @@ def grouped(findings: Sequence[Finding], causes: dict[Finding, Finding]) -> list
 
 
 def repeats(findings: Sequence[Finding]) -> dict[Finding, Finding]:
-    """The errors with the message of an earlier one, each with that one."""
+    """The errors that have the message of an earlier one, each with the earlier one."""
     first: dict[str, Finding] = {}
     found = {}
     for each in findings:

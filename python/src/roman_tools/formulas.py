@@ -31,7 +31,7 @@ NAME: /(?!(?:and|or|not)(?![A-Za-z0-9_-]))[A-Za-z0-9_-]+/
 """
 
 Report = Callable[[Span, str], None]
-"""Gets each mistake with its place."""
+"""Receives each mistake with its place."""
 
 
 @functools.cache
@@ -40,7 +40,7 @@ def parser() -> Lark:
 
 
 class Space:
-    """The states of an environment, as guards see them: by their names, and by the values of variables."""
+    """The states of an environment in guards: by their names, and by the values of variables."""
 
     def __init__(
         self,
@@ -52,19 +52,19 @@ class Space:
         self.states = states
         self.variables = variables
         self.values = values
-        """For each state the value of each variable."""
+        """The value of each variable in each state."""
         self.elsewhere = elsewhere
         """Words that are states of a behaviour, each with its name."""
         self.everything = (1 << len(states)) - 1
 
     def where(self, variable: str, value: str) -> int:
-        """The states in which a variable has a value, a bit for each."""
+        """The states in which a variable has a value, as a mask with a bit for each state."""
         return sum(1 << number for number, each in enumerate(self.values) if each.get(variable) == value)
 
     # The meaning of guards.
 
     def guard(self, value: Value, report: Report) -> int:
-        """The states that a guard means. What is wrong is reported, and means all states."""
+        """The states that a guard means. A mistake is reported, and means all states."""
         if isinstance(value, Constant) and value.constant is not None:
             return self.everything if value.constant else 0
         if isinstance(value, Text):
@@ -98,7 +98,7 @@ class Space:
         return meaning
 
     def test(self, variable: str, value: str, span: Span, report: Report) -> int:
-        """The states in which a variable has that value."""
+        """The states in which a variable has a value. A mistake is reported."""
         if variable not in self.variables:
             report(span, f'"{variable}" is no variable{meant(variable, self.variables)}')
             return self.everything
@@ -109,8 +109,8 @@ class Space:
         return self.where(variable, value)
 
     def word(self, word: str, span: Span, report: Report) -> int:
-        """The states that a word alone means: one state, or those in which the variable that has this value has
-        it."""
+        """The states that a single word means: the state of this name, or the states in which a variable has this
+        value."""
         if word in self.states:
             return 1 << self.states.index(word)
         if word in ("true", "false"):
@@ -127,13 +127,13 @@ class Space:
         return self.everything
 
     def known_as(self, word: str) -> str:
-        """What a word is that guards can't see."""
+        """A part of a message on a word that guards don't have, but a behaviour does."""
         if word not in self.elsewhere:
             return ""
         return f'; it is a state of behaviour "{self.elsewhere[word]}", and guards see the environment alone'
 
     def words(self, mask: int) -> str:
-        """A formula for these states: by the values of each variable if that is possible, else by their names."""
+        """A formula for these states: by the values of variables if possible, and otherwise by their names."""
         numbers = [number for number in range(len(self.states)) if mask >> number & 1]
         parts, product = [], self.everything
         for variable, values in self.variables.items():
@@ -159,7 +159,7 @@ class Space:
         return self.meaning(tree, text, report)
 
     def meaning(self, tree: Tree[Token], text: Text, report: Report) -> int:
-        """The states that a formula means. Its parts come first, however deep they stand."""
+        """The states that a formula means. Its parts are evaluated first, without recursion."""
         masks: dict[int, int] = {}
         for part in tree.iter_subtrees():
             within = [masks[id(each)] for each in part.children if isinstance(each, Tree)]
@@ -167,7 +167,7 @@ class Space:
         return masks[id(tree)]
 
     def part(self, tree: Any, masks: list[int], text: Text, report: Report) -> int:
-        """The states that a part of a formula means, by those of its own parts."""
+        """The states that a part of a formula means, from those of its own parts."""
         if tree.data == "word":
             return self.word(str(tree.children[0]), spot(text, tree.children[0]), report)
         if tree.data in ("test", "difference"):
@@ -181,7 +181,7 @@ class Space:
 
 
 def words_of(guard: Value) -> str:
-    """A guard as a formula, whichever form it has."""
+    """A guard of any form as a formula."""
     if isinstance(guard, Text):
         return guard.text
     if isinstance(guard, Constant):
@@ -210,7 +210,7 @@ def inner(guard: Value) -> str:
 
 
 def spot(text: Text, token: Token) -> Span:
-    """The place of a word of a formula; the whole text if it has escapes."""
+    """The place of a word of a formula, or of the whole text if it has escapes."""
     if text.span.end - text.span.start != len(text.text) + 2:
         return text.span
     assert token.start_pos is not None and token.end_pos is not None
@@ -218,7 +218,7 @@ def spot(text: Text, token: Token) -> Span:
 
 
 def piece(text: Text, error: UnexpectedInput) -> tuple[Span, str]:
-    """Where a formula breaks off, and that in words."""
+    """The place and the message of a syntax error in a formula."""
     at: int | None = error.pos_in_stream
     if at is None or at < 0 or at >= len(text.text) or getattr(getattr(error, "token", None), "type", "") == "$END":
         return text.span, "at its end"

@@ -25,7 +25,7 @@ def service_sizes(document: Document) -> list[int]:
 
 
 def too_large(document: Document) -> Finding | None:
-    """The finding that a system has more cells than its limit, with the factors and a sufficient limit."""
+    """The finding that a system has more cells than its limit, if it has. It has the factors and a sufficient limit."""
     limit = document.value.get("limit", LIMIT)
     count = cells(document)
     if count <= limit:

@@ -1,9 +1,8 @@
-"""roman-lint FILE [COSTS]: mistakes in a document, and what is probably not meant, each with its place.
+"""roman-lint FILE [COSTS]: mistakes in a document, and warnings of what is probably not meant, each with its place.
 
-With a file of costs, as `advise` reads it, its mistakes are shown too, and the behaviours that have no cost in it.
-
-The last line is the answer of the program, which decides. The status is 3 if there are errors, 4 if the
-system is larger than its limit, 1 if there are warnings under --strict, 5 if the file can't
+Shows each mistake and each warning with its line. With a file of costs for `advise`, also shows the mistakes in that
+file, and the behaviours without a cost. The last line is the answer of the program, which decides. The status is 3 if
+there are errors, 4 if the system is larger than its limit, 1 if there are warnings under --strict, 5 if the file can't
 be read, and 0 otherwise.
 """
 
@@ -33,7 +32,7 @@ def lint(name: str) -> list[Finding]:
 
 
 def all_findings(checker: Checker) -> list[Finding]:
-    """The errors of a document that was read, and its warnings: causes first, each with what follows from it."""
+    """The errors and warnings of a document that was read. Causes come first, each with its consequences."""
     findings = in_order([*checker.findings, *of_text(checker)])
     if checker.document is None:
         return grouped(findings, repeats(findings))
@@ -41,8 +40,8 @@ def all_findings(checker: Checker) -> list[Finding]:
 
 
 def said(words: argparse.Namespace, checker: Checker) -> list[str]:
-    """The program's answer to the document in one line, and why it has no composition: of a short one, its answer of
-    the plain one, and with a file of costs what it says of both. Nothing if the program isn't here."""
+    """The program's answer to the document and the file of costs in one line, and why there is no composition. For a
+    short document the program answers the plain one. There are no lines if the program isn't here."""
     found = None if words.no_program else program.find(words.program)
     if found is None:
         return []
@@ -65,7 +64,7 @@ def said(words: argparse.Namespace, checker: Checker) -> list[str]:
 
 
 def counts(findings: Sequence[Finding]) -> tuple[int, int]:
-    """How many errors there are, and how many warnings."""
+    """The number of errors, and the number of warnings."""
     errors = sum(each.level is Level.ERROR for each in findings)
     return errors, len(findings) - errors
 
@@ -79,10 +78,10 @@ def main(arguments: Sequence[str] | None = None) -> int:
     words.add_argument("file", metavar="FILE")
     words.add_argument("costs", metavar="COSTS", nargs="?", help="a file of costs for the document")
     words.add_argument("--json", action="store_true", help="write a JSON value, for editors")
-    words.add_argument("--all", action="store_true", help="show what follows from a finding, or repeats it, too")
-    words.add_argument("--strict", action="store_true", help="end with status 1 where there are warnings")
-    words.add_argument("--program", metavar="ROMAN", help="the program that has the last word")
-    words.add_argument("--no-program", action="store_true", help="don't ask the program")
+    words.add_argument("--all", action="store_true", help="also show consequences and repetitions of a finding")
+    words.add_argument("--strict", action="store_true", help="end with status 1 if there are warnings")
+    words.add_argument("--program", metavar="ROMAN", help="the program to call")
+    words.add_argument("--no-program", action="store_true", help="don't call the program")
     asked = words.parse_args(arguments)
     try:
         checker = read(asked.file)

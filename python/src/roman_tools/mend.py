@@ -1,9 +1,9 @@
-"""roman-mend SYSTEM [SESSION]: what would help if there is no composition.
+"""roman-mend SYSTEM [SESSION]: the changes that help if there is no composition.
 
-Tries each single change of the present states by the program itself, and writes those after which there is a
-composition, the cheapest first: each as the line of a session, and in words. The states are those of the document,
-or those at the end of SESSION. With --two, pairs of changes are tried if no single one helps. With --spare, writes
-which one further service would let the composition survive the failure of any one service.
+Tries each single change of the present states with the program. Writes the changes after which there is a composition,
+the cheapest first, each as a line of a session and in words. The present states are those of the document, or those at
+the end of SESSION. With --two, tries pairs of changes if no single change helps. With --spare, writes which single
+further service would let the composition survive the failure of any one service.
 """
 
 from __future__ import annotations
@@ -27,12 +27,12 @@ from .lint import UNREADABLE, WRONG
 from .pictures import Wrong
 
 DONE, NOTHING = 0, 1
-"""The statuses: something helps, or nothing has to; nothing helps."""
+"""The statuses: a change helps, or none is needed; no change helps."""
 
 
 def present(roman: str, document: Document, session: str | None) -> Report:
-    """The report at the end of a session, or of the document without one. Raises Wrong if the program writes
-    none."""
+    """The report at the end of a session, or of the document if there is none. Raises Wrong if the program writes no
+    report."""
     lines = [] if session is None else Path(session).read_text(encoding="utf-8", errors="replace").splitlines()
     if "quit" in (line.strip() for line in lines):
         lines = lines[: [line.strip() for line in lines].index("quit")]
@@ -65,7 +65,7 @@ def survives(roman: str, document: Document) -> bool:
 
 
 def single_failures(text: str) -> Iterator[list[str]]:
-    """The lines of `resilience` about the start, and about the failure of one service."""
+    """The lines of `resilience` on the start, and on the failures of single services."""
     for line in text.splitlines():
         words = line.split()
         if words[0] == "start" or (words[0] == "without" and len(words) == 8):
@@ -73,8 +73,7 @@ def single_failures(text: str) -> Iterator[list[str]]:
 
 
 def spares(roman: str, document: Document, report: Report) -> Iterator[str]:
-    """Each behaviour of which one further service, in its start state, lets the composition survive any one
-    failure."""
+    """The behaviours of which one further service, in its start state, lets the composition survive any one failure."""
     for behaviour in document.behaviours.values():
         name = free_name(behaviour.name, (each.name for each in report.services))
         loose = joins_loose(document, report, behaviour.name)
@@ -85,7 +84,7 @@ def spares(roman: str, document: Document, report: Report) -> Iterator[str]:
 
 
 def write_spares(roman: str, document: Document, report: Report) -> int:
-    """Writes the spares, and gives the status."""
+    """Writes the spares, and returns the status."""
     if survives(roman, document.with_states(report)):
         print("any one service may fail already")
         return DONE
@@ -98,7 +97,7 @@ def write_spares(roman: str, document: Document, report: Report) -> int:
 
 
 def write_remedies(roman: str, document: Document, report: Report, two: bool) -> int:
-    """Writes the remedies, and gives the status."""
+    """Writes the remedies, and returns the status."""
     if report.composition:
         print("there is a composition")
         return DONE
@@ -118,7 +117,7 @@ def parser() -> argparse.ArgumentParser:
     words.add_argument("session", metavar="SESSION", nargs="?", help="a session that leads to the present states")
     words.add_argument("--two", action="store_true", help="try pairs of changes if no single one helps")
     words.add_argument("--spare", action="store_true", help="write which further service makes up for any failure")
-    words.add_argument("--program", metavar="ROMAN", help="the program that tries them")
+    words.add_argument("--program", metavar="ROMAN", help="the program to call")
     return words
 
 
@@ -140,7 +139,7 @@ def main(arguments: Sequence[str] | None = None) -> int:
         return write_remedies(roman, document, report, asked.two)
     except OSError as error:
         if error.filename is None:
-            raise  # What it writes can't be written.
+            raise  # The output can't be written.
         print(f"roman-mend: {error.filename}: {error.strerror}", file=sys.stderr)
         return UNREADABLE
     except (Wrong, RomanError) as error:

@@ -1,4 +1,4 @@
-"""The picture of what can happen from the start, when offers are followed."""
+"""The picture of what can happen from the start if offered services are used."""
 
 from __future__ import annotations
 
@@ -10,7 +10,7 @@ from roman_client import Document
 from .pictures import CHOICE, FADED, PLAIN, WRONG, Wrong, coloured, folded, graph, html, marked
 
 MOST = 40
-"""How many pairs a picture shows."""
+"""The maximum number of pairs in a picture."""
 
 
 @dataclass(frozen=True)
@@ -33,11 +33,11 @@ class Arena:
 
     @classmethod
     def of_certificate(cls, document: Document, certificate: str) -> Arena:
-        """The pairs, of which a certificate lists those that are lost."""
+        """The pairs of a document. The certificate lists the lost ones."""
         return cls(document, {int(line.split()[0]) for line in certificate.splitlines()[2:-1]})
 
     def number(self, pair: Pair) -> int:
-        """A pair's number in certificates: the target's state first, the last service's changing fastest."""
+        """A pair's number in certificates. The target's state changes slowest, and the last service's state fastest."""
         document = self.document
         targets = zip(document.targets, document.target_states(pair.target))
         places = [(each.states, state) for each, state in targets]
@@ -53,7 +53,7 @@ class Arena:
         return self.number(pair) not in self.lost
 
     def outcomes(self, pair: Pair, request: str, seat: int) -> list[Pair]:
-        """The pairs to which a service may lead by an allowed request; none if it can't take it."""
+        """The pairs to which a service may lead by an allowed request. There are none if it can't take the request."""
         service = self.document.services[seat]
         target = self.document.target_after(pair.target, pair.environment, request)
         if service.frozen or target is None:
@@ -68,7 +68,7 @@ class Arena:
         return f"<B>{html(pair.target)}</B> · {html(pair.environment)}"
 
     def changes(self, pair: Pair) -> list[str]:
-        """The services whose states aren't those of the start."""
+        """The services whose states differ from those at the start."""
         return [
             f"{service.name}: {state}"
             for service, state, start in zip(self.document.services, pair.services, self.start.services)
@@ -77,8 +77,8 @@ class Arena:
 
 
 def picture(document: Document, certificate: str) -> Any:
-    """The related pairs that come from the start when offered services are used, and in red what a service that
-    isn't offered may lead to."""
+    """The related pairs that are reached from the start if offered services are used. Pairs to which a service that
+    isn't offered may lead are red."""
     arena = Arena.of_certificate(document, certificate)
     if not arena.is_related(arena.start):
         raise Wrong("there is no composition from the start, so nothing is offered there")
@@ -122,7 +122,7 @@ def picture(document: Document, certificate: str) -> Any:
 
 
 def label_of(arena: Arena, before: Pair, after: Pair, request: str, seat: int, is_choice: bool) -> str:
-    """An arrow's label: the request, who serves it, and what changes by that."""
+    """An arrow's label: the request, the service that serves it, and the changes."""
     name = arena.document.services[seat].name
     one, other = before.services[seat], after.services[seat]
     change = f": {one} → {other}" if one != other else ""

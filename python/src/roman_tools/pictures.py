@@ -24,7 +24,7 @@ class Wrong(Exception):
 
 
 def graph(direction: str, **options: str) -> graphviz.Digraph:
-    """An empty picture. What is written in words needs no Graphviz."""
+    """Returns an empty picture. Graphviz is loaded here, because texts don't need it."""
     need("graphviz")
     import graphviz
 
@@ -50,7 +50,7 @@ def svg(picture: graphviz.Digraph) -> str:
 
 
 def html(text: str) -> str:
-    """A text inside of a label with marks."""
+    """A text as a part of a label with markup."""
     return escape(text, quote=False)
 
 
@@ -60,12 +60,12 @@ def coloured(text: str, colour: str, small: bool = False) -> str:
 
 
 def marked(lines: Sequence[str]) -> str:
-    """A label of lines with marks."""
+    """A label of lines with markup."""
     return "<" + "<BR/>".join(lines) + ">"
 
 
 def folded(words: Sequence[str], most: int) -> str:
-    """Words with commas between; of many the first ones, and how many more there are."""
+    """Words with commas between them. Of many it has the first ones, and the number of the others."""
     if len(words) <= most:
         return ", ".join(words)
     return f"{', '.join(words[: most - 1])} and {len(words) - most + 1} more"

@@ -1,5 +1,5 @@
-"""JSON values with their places. The client's `Document` reads them like any others, so each of its names and steps has
-a place."""
+"""JSON values with their places. The client's `Document` reads them like other values, so its names and steps have
+places, too."""
 
 from __future__ import annotations
 

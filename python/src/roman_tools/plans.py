@@ -1,4 +1,4 @@
-"""Targets by plans: sequences, choices and loops of actions, made into machines without choices."""
+"""Targets by plans: sequences, choices and loops of actions, which become machines without choices."""
 
 from __future__ import annotations
 
@@ -9,35 +9,34 @@ from dataclasses import dataclass, field
 from .reader import Span, Value
 
 Place = int
-"""The number of an action's place in a plan; -1 is before all of them."""
+"""The number of an action's place in a plan. -1 is before all places."""
 
 BEGIN: Place = -1
 
 MOST = 512
-"""How many actions a plan may name, and how many states its machine may have before those that can't be told
-apart become one."""
+"""The maximum number of actions in a plan, and of states of its machine before equivalent states are merged."""
 
 
 class TooLarge(Exception):
-    """A plan with more actions or states than it may have."""
+    """A plan has too many actions, or its machine too many states."""
 
 
 @dataclass(frozen=True)
 class Request:
-    """A place of a plan: which actions may be requested there, in which environment states, and the name of the
-    state that follows."""
+    """A place of a plan: the actions that may be requested there, the environment states in which they may be, and the
+    name of the state that follows."""
 
     actions: tuple[str, ...]
     guard: int
     name: str | None
     span: Span
     written: Value | None = None
-    """The guard as it is written."""
+    """The guard in its written form."""
 
 
 @dataclass
 class Shape:
-    """A piece of a plan: whether it may be left out, and with which places it begins and ends."""
+    """A piece of a plan: whether it may be left out, and the places with which it begins and ends."""
 
     empty: bool
     first: frozenset[Place]
@@ -46,7 +45,7 @@ class Shape:
 
 @dataclass
 class Plan:
-    """The places of a plan, and which of them may come after which."""
+    """The places of a plan, with the places that may follow each."""
 
     requests: list[Request] = field(default_factory=list)
     after: dict[Place, set[Place]] = field(default_factory=dict)
@@ -88,7 +87,7 @@ class Plan:
 
 
 State = frozenset[Place]
-"""The places of which one was the last."""
+"""The places, one of which was the last."""
 
 
 @dataclass(frozen=True)
@@ -100,7 +99,7 @@ class Way:
     action: str
     to: str
     request: Request
-    """The first request of those that it comes from."""
+    """The first of the requests from which it comes."""
 
     @property
     def span(self) -> Span:
@@ -109,7 +108,7 @@ class Way:
 
 @dataclass
 class Made:
-    """A plan's machine: the names of its states with where they come from, the final ones, and its steps."""
+    """A plan's machine: the names of its states with their origins, the final states, and the steps."""
 
     states: dict[str, Span | None]
     finals: list[str]
@@ -117,7 +116,7 @@ class Made:
 
 
 class Maker:
-    """Makes the machine of a plan: sets of places as its states, those that can't be told apart as one."""
+    """Makes the machine of a plan. Its states are sets of places, and equivalent sets are merged."""
 
     def __init__(self, plan: Plan, whole: Shape, start: str, size: int, finals: set[str] | None) -> None:
         self.plan = plan
@@ -130,7 +129,7 @@ class Maker:
         self.explore()
 
     def explore(self) -> None:
-        """All states to which the plan leads, with their ways."""
+        """Finds all states to which the plan leads, with their ways."""
         waiting: list[State] = [frozenset({BEGIN})]
         while waiting:
             state = waiting.pop(0)
@@ -142,7 +141,7 @@ class Maker:
             waiting += [to for _, _, to, _ in self.ways[state]]
 
     def ways_of(self, state: State) -> list[tuple[str, int, State, Request]]:
-        """For each action the sets of places to which it leads, with the environment states in which it does."""
+        """The sets of places to which each action leads, with the environment states in which it does."""
         places = sorted(set().union(*(self.plan.after.get(place, set()) for place in state)))
         requests = [(place, self.plan.requests[place]) for place in places]
         found = []
@@ -170,7 +169,7 @@ class Maker:
         return self.name(state) in self.given_finals
 
     def blocks(self) -> dict[State, int]:
-        """The number of each state's block: states in one block can't be told apart."""
+        """The number of each state's block. The states of a block are equivalent."""
         blocks = {state: int(self.is_final(state)) for state in self.ways}
         count = 0
         while count != len(set(blocks.values())):
@@ -190,7 +189,7 @@ class Maker:
         return blocks
 
     def clashes(self) -> list[tuple[str, Span]]:
-        """The names that the plan gives to states that can be told apart."""
+        """The names that the plan gives to states that aren't equivalent."""
         blocks = self.blocks()
         owners: dict[str, int] = {}
         found = []
@@ -236,7 +235,7 @@ class Maker:
 
 
 def parts(everything: int, guards: set[int]) -> list[int]:
-    """The largest sets of environment states that no guard tells apart, from the first state on."""
+    """The largest sets of environment states that no guard distinguishes, in the order of their first states."""
     found = [everything]
     for guard in guards:
         found = [piece for each in found for piece in (each & guard, each & ~guard) if piece]
@@ -244,7 +243,7 @@ def parts(everything: int, guards: set[int]) -> list[int]:
 
 
 def free_name(action: str, taken: set[str]) -> str:
-    """`after-ACTION`, with a number if that name is taken."""
+    """The name `after-ACTION`, with a number if that is taken."""
     base = f"after-{action}"[:29]
     names = itertools.chain([base], (f"{base}-{number}" for number in itertools.count(2)))
     return next(name for name in names if name not in taken)

@@ -1,4 +1,4 @@
-"""The built program, as the tools call it."""
+"""Finds and runs the built program."""
 
 from __future__ import annotations
 
@@ -8,11 +8,11 @@ import subprocess
 from pathlib import Path
 
 PACKAGES = Path(__file__).resolve().parents[1]
-"""The folder of the packages: python/src of a clone, or the one to which ./install copies them."""
+"""The folder of the packages: python/src of a clone, or the folder to which ./install copies them."""
 
 
 def find(given: str | None = None) -> str | None:
-    """The program that is given, that ROMAN names, that stands beside the tools, or that PATH has."""
+    """Finds the program: the given one, that of the variable ROMAN, the one beside the tools, or the one in PATH."""
     for each in (given, os.environ.get("ROMAN")):
         if each:
             return each
@@ -23,6 +23,5 @@ def find(given: str | None = None) -> str | None:
 
 
 def run(program: str, *words: str, text: str = "") -> subprocess.CompletedProcess[str]:
-    """What the program writes for these words and that standard input. Raises OSError if it can't be
-    started."""
+    """Runs the program with these words and standard input. Raises OSError if it can't be started."""
     return subprocess.run([program, *words], input=text, capture_output=True, text=True, errors="replace", check=False)

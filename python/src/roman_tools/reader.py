@@ -1,7 +1,7 @@
-"""JSON texts, read into values with their places.
+"""Reads JSON texts into values with their places.
 
-The texts that are read are those that the program reads: the same numbers, escapes and depths. What it
-refuses as `notjson` is `Broken`.
+It accepts the texts that the program accepts, with the same numbers, escapes and depths. A text that the program
+refuses as `notjson` raises `Broken`.
 """
 
 from __future__ import annotations
@@ -53,7 +53,7 @@ TERMINALS = {
 
 
 class Source:
-    """A text by its name, in which places are found."""
+    """A text with its name, which finds places in itself."""
 
     def __init__(self, name: str, text: str) -> None:
         self.name = name
@@ -91,7 +91,7 @@ class Span:
         return Span(self.source, self.start, min(self.start + 1, self.end))
 
     def within(self, start: int, end: int) -> Span:
-        """A piece of it, by its distance from the start."""
+        """A piece of it, by offsets from its start."""
         return Span(self.source, self.start + start, self.start + end)
 
     def __str__(self) -> str:
@@ -100,7 +100,7 @@ class Span:
 
 
 class Broken(Exception):
-    """A text isn't JSON, at this place."""
+    """A text isn't JSON. It has the place of the fault."""
 
     def __init__(self, span: Span, message: str) -> None:
         super().__init__(message)
@@ -116,7 +116,7 @@ class Value:
 
     @property
     def word(self) -> str:
-        """What it is, in words."""
+        """Its kind, in words."""
         raise NotImplementedError
 
 
@@ -133,7 +133,7 @@ class Text(Value):
 
 @dataclass(frozen=True)
 class Number(Value):
-    """A number as it is written."""
+    """A number in its written form."""
 
     literal: str
 
@@ -143,7 +143,7 @@ class Number(Value):
 
     @property
     def whole(self) -> int | None:
-        """The number, where it is a u64 without sign, point and exponent."""
+        """The number, None unless it is a u64 without a sign, a point and an exponent."""
         if not re.fullmatch("[0-9]+", self.literal) or len(self.literal) > 20:
             return None
         number = int(self.literal)
@@ -182,11 +182,11 @@ class Member:
 
 @dataclass(frozen=True)
 class Members(Value):
-    """An object, with its members as they stand in the text."""
+    """An object, with its members in the order of the text."""
 
     members: list[Member]
     last: dict[str, Member] = field(init=False, compare=False, repr=False)
-    """The members by their names; of those with one name the last, which counts."""
+    """The members by their names. Of several with one name it is the last, which counts."""
 
     def __post_init__(self) -> None:
         object.__setattr__(self, "last", {each.name.text: each for each in self.members})
@@ -213,7 +213,7 @@ def parser() -> Lark:
 
 
 class Builder(Transformer_NonRecursive):
-    """Values of the parser's tree, from the inside."""
+    """Makes values of the parser's tree, from the inside."""
 
     def __init__(self, source: Source) -> None:
         super().__init__()
@@ -245,7 +245,7 @@ class Builder(Transformer_NonRecursive):
 
 
 def parsed(source: Source) -> Value:
-    """The value of a text. Raises `Broken` if the program refuses the text."""
+    """Parses a text. Raises `Broken` if the program refuses it."""
     try:
         tree = parser().parse(source.text)
     except UnexpectedInput as error:
@@ -262,7 +262,8 @@ def parsed(source: Source) -> Value:
 
 
 def walked(value: Value) -> Iterator[tuple[Value, int]]:
-    """All values in one, in the order of the text, each with how many lists and objects stand around and at it."""
+    """All values in a value, in the order of the text. Each has its depth: the number of lists and objects around it,
+    including itself."""
     waiting: list[tuple[Value, int]] = [(value, 1)]
     while waiting:
         each, depth = waiting.pop()
@@ -275,8 +276,8 @@ def walked(value: Value) -> Iterator[tuple[Value, int]]:
 
 
 def is_finite(literal: str) -> bool:
-    """Whether a number is read as a finite one: its first digits, as far as 64 bits hold them, times a power
-    of ten."""
+    """Whether the program reads a number as a finite one: the first digits that fit into 64 bits, times a power of
+    ten."""
     found = re.fullmatch(r"-?([0-9]+)(?:\.([0-9]+))?(?:[eE]([+-]?[0-9]+))?", literal)
     assert found is not None
     digits, exponent = 0, 0
@@ -297,7 +298,7 @@ def is_finite(literal: str) -> bool:
     return exponent <= 308 and math.isfinite(float(digits) * float(f"1e{exponent}"))
 
 
-# What is wrong with a text that isn't JSON.
+# The faults of a text that isn't JSON.
 
 
 def fault_of(source: Source, error: UnexpectedInput) -> Broken:
@@ -325,7 +326,7 @@ def fault_of(source: Source, error: UnexpectedInput) -> Broken:
 
 
 def character_fault(source: Source, at: int) -> Broken:
-    """The fault of a text with a character that begins nothing."""
+    """The fault of a text with a character that begins no token."""
     text = source.text
     one = Span(source, at, at + 1)
     if text[at] == '"':
@@ -345,7 +346,7 @@ def character_fault(source: Source, at: int) -> Broken:
 
 
 def string_fault(source: Source, start: int) -> Broken:
-    """The fault of a text between quotes that doesn't end, or not well."""
+    """The fault of a text between quotes that doesn't end, or has an invalid character or escape."""
     good = re.compile(r'(?:[^"\\\x00-\x1f\ud800-\udfff]|\\(?:["\\/bfnrt]|u[0-9A-Fa-f]{4}))*')
     found = good.match(source.text, start + 1)
     assert found is not None
@@ -367,17 +368,17 @@ class Shelf:
     """The files that a document names, each read once."""
 
     def __init__(self, folder: Path = Path()) -> None:
-        """Names count from that folder."""
+        """Names of files are relative to `folder`."""
         self._folder = folder
         self._sources: dict[str, tuple[Source, int]] = {}
 
     def source(self, name: str) -> tuple[Source, int]:
-        """A file's text, and how many bytes it has. Raises OSError if it can't be read."""
+        """Returns a file's text and its length in bytes. Raises OSError if it can't be read."""
         if name not in self._sources:
             try:
                 data = (self._folder / name).read_bytes()
             except OSError as error:
-                # An error while it is read, once it is open, doesn't name it.
+                # An error while an open file is read doesn't name it.
                 raise OSError(error.errno, error.strerror, error.filename or name) from None
             text = data.decode("utf-8", "surrogateescape")
             self._sources[name] = Source(name, text), len(data)

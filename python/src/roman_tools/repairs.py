@@ -1,4 +1,4 @@
-"""Documents without the cause of a finding. A finding that isn't found in them is a consequence of that cause."""
+"""Makes documents without the cause of a finding. Findings that they don't have are consequences of that cause."""
 
 from __future__ import annotations
 

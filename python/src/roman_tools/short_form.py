@@ -1,8 +1,8 @@
-"""The short form of documents, and its expansion: a plain document whose words keep their places.
+"""The short form of documents, and its expansion to a plain document whose words keep their places.
 
-An environment by variables, steps that say what changes and leave the rest, guards in words, behaviours with
-parameters, services by count, targets by plans. What isn't said in a short way stands as in a plain document, so
-a plain document is a short one too.
+The short form has environments by variables, steps that state only the changes, guards in words, behaviours with
+parameters, services by count, and targets by plans. All other parts have the plain form, so a plain document is a short
+one, too.
 """
 
 from __future__ import annotations
@@ -27,7 +27,7 @@ from .plans import Maker, Plan, Request, Shape, TooLarge, Way
 from .reader import Constant, Items, Member, Members, Number, Span, Text, Value
 
 SHORT = "short"
-"""What stands for the version in a short document."""
+"""The version of a short document."""
 
 PARAMETER = re.compile(r"\$(?:\{([A-Za-z0-9_]+)\}|([A-Za-z0-9_]+))")
 STAYS = "stays"
@@ -36,7 +36,7 @@ SCHEMA = Path(__file__).with_name("short.schema.json")
 
 
 def is_short(value: Value) -> bool:
-    """Whether a document says that it is in the short form."""
+    """Whether a document states that it is in the short form."""
     version = value.get("roman") if isinstance(value, Members) else None
     return isinstance(version, Text) and version.text == SHORT
 
@@ -49,12 +49,12 @@ def text(at: Span, word: str) -> Text:
 
 
 def members(at: Span, **values: Value | None) -> Members:
-    """An object of the values that are there."""
+    """An object of the values that are present."""
     return Members(at, [Member(text(at, name), value) for name, value in values.items() if value is not None])
 
 
 def plain(value: Value) -> Any:
-    """A value without its places. Deep ones are cut off: no part of a document is so deep."""
+    """A value without its places. Values that are nested too deeply for a document are cut off."""
     if isinstance(value, Text):
         return value.text
     if isinstance(value, Constant):
@@ -68,14 +68,14 @@ def plain(value: Value) -> Any:
 
 
 def word_of(value: Value | None) -> str | None:
-    """A text, or true or false as a word; None for any other value."""
+    """A text, or true or false as a word. None for any other value."""
     if isinstance(value, Constant) and value.constant is not None:
         return "true" if value.constant else "false"
     return value.text if isinstance(value, Text) else None
 
 
 def member_text(value: Value, name: str) -> str:
-    """The text of a member; an empty one if there is no such member."""
+    """The text of a member, which is empty if there is no such member."""
     return word_of(value.get(name) if isinstance(value, Members) else None) or ""
 
 
@@ -114,7 +114,7 @@ class Worded(Items):
 
 @dataclass
 class Template:
-    """A behaviour with parameters, and what it was made into so far."""
+    """A behaviour with parameters, and the behaviours that were made from it so far."""
 
     value: Members
     name: str
@@ -124,8 +124,8 @@ class Template:
 
 
 class Expander:
-    """Makes the plain document of a short one. What is wrong is noted in the checker, which then reads the
-    plain document."""
+    """Makes the plain document of a short one. Mistakes are reported to the checker, which then reads the plain
+    document."""
 
     def __init__(self, checker: Checker) -> None:
         self.checker = checker
@@ -133,7 +133,7 @@ class Expander:
         self.elsewhere: dict[str, str] = {}
         """The states of behaviours, each with a behaviour that has it."""
         self.seen: dict[str, Text] = {}
-        """The actions of the document as they come up, for an environment that doesn't list them."""
+        """The actions in the order of the document, for an environment that doesn't list them."""
         self.moved: dict[str, Span] = {}
         """The actions on which the environment has a step, with the first one of each."""
         self.planned: dict[str, Span] = {}
@@ -143,7 +143,7 @@ class Expander:
         self.checker.findings.append(Finding(span, Level.ERROR, message))
 
     def from_file(self, value: Value, word: str, number: int) -> Value | None:
-        """A part, from its file if it is given by one."""
+        """A part, which is read if it names a file."""
         if not isinstance(value, Members) or "file" not in value.last:
             return value
         part = self.checker.part(value, word, number, f"{word} {number}")
@@ -191,12 +191,12 @@ class Expander:
                 items = [self.from_file(each, name[:-1], i) or each for i, each in enumerate(value.items)]
                 value = Items(value.span, items)
             inner.append(Member(member.name, value))
-        # The parts that the checker is to judge are those of the plain document.
+        # The checker judges the parts of the plain document.
         self.checker.parts.clear()
         return Members(document.span, inner)
 
     def has_form(self, document: Members) -> bool:
-        """Whether the document has the form that the schema says. What hasn't is noted."""
+        """Whether the document has the form of the schema. Deviations are reported."""
         schema = json.loads(SCHEMA.read_text(encoding="utf-8"))
         try:
             for error in Draft202012Validator(schema).iter_errors(plain(document)):
@@ -206,8 +206,8 @@ class Expander:
         return not self.checker.findings
 
     def collect(self, document: Members) -> None:
-        """Notes the actions in the order in which they come up: those of the environment's steps, of the
-        targets, of the behaviours."""
+        """Collects the actions in their order: those of the environment's steps, of the targets, and of the
+        behaviours."""
         environment = document.get("environment")
         if isinstance(environment, Members):
             for step in items_of(environment.get("steps")):
@@ -241,8 +241,8 @@ class Expander:
                 self.collect_plan(value.get(word))
 
     def check_requests(self, known: Sequence[Text], behaviours: Sequence[Value], services: Sequence[Value]) -> None:
-        """Notes the actions of plans on which the environment has no step, or no service has. Those that aren't in
-        the environment's list of actions, and unknown behaviours, are noted with the plain document."""
+        """Reports the actions of plans on which the environment has no step, or no service has one. Actions that aren't
+        in the environment's list, and unknown behaviours, are reported with the plain document."""
         kinds = {member_text(each, "behaviour") for each in services}
         if not kinds <= {member_text(each, "name") for each in behaviours}:
             return
@@ -264,7 +264,7 @@ class Expander:
     # The environment.
 
     def environment(self, value: Value | None, at: Span) -> Members:
-        """The plain environment. Where there is none it has one state, which all actions leave."""
+        """The plain environment. If there is none, it has one state, to which all actions lead back."""
         if not isinstance(value, Members):
             value = members(at, states=Items(at, [text(at, "always")]), otherwise=text(at, STAYS))
         states = self.states(value)
@@ -292,7 +292,7 @@ class Expander:
         )
 
     def states(self, value: Members) -> list[Text]:
-        """The states: as they are listed, or one for each combination of the variables' values."""
+        """The states: the listed ones, or one for each combination of the variables' values."""
         variables = value.get("variables")
         if not isinstance(variables, Members):
             states = texts(value.get("states"))
@@ -323,7 +323,7 @@ class Expander:
         return self.changed(dict(self.space.values[0]), start)
 
     def changed(self, values: dict[str, str], change: Members) -> Text:
-        """The state that has these values, but for those that change."""
+        """The state with these values, apart from those that change."""
         for name, member in change.last.items():
             if isinstance(member.value, Text):
                 before = len(self.checker.findings)
@@ -334,7 +334,7 @@ class Expander:
         return text(change.span, "-".join(values.values()))
 
     def moves(self, step: Value, states: Sequence[Text]) -> Iterator[tuple[Text, Text, Text]]:
-        """The steps that one stands for."""
+        """The plain steps of a step of the environment."""
         if isinstance(step, Items):
             one, action, other = texts(step)
             yield one, action, other
@@ -357,7 +357,7 @@ class Expander:
                     yield state, action, state
 
     def led_to(self, number: int, state: Text, way: Value | None) -> Text:
-        """The state to which a way leads from one."""
+        """The state to which a way leads from a state."""
         if way is None:
             return state
         if isinstance(way, Text):
@@ -377,7 +377,7 @@ class Expander:
     # Behaviours and services.
 
     def behaviours(self, document: Members) -> tuple[list[Value], list[Value]]:
-        """The catalogue, and the services of it."""
+        """The catalogue, and its services."""
         templates: dict[str, Template] = {}
         slots: list[Any] = []
         counted: list[tuple[Text, Value]] = []
@@ -406,7 +406,7 @@ class Expander:
         return behaviours, services
 
     def services(self, value: Members, templates: dict[str, Template]) -> Iterator[Value]:
-        """The services that one stands for."""
+        """The plain services of a service."""
         behaviour = value.get("behaviour")
         assert isinstance(behaviour, Text)
         name = value.get("name") or behaviour
@@ -435,7 +435,7 @@ class Expander:
             )
 
     def instance(self, template: Template, service: Members, given: dict[str, str]) -> str:
-        """The name of the behaviour that a pattern becomes for a service, which is made if it is new."""
+        """The name of the behaviour that is made from a pattern for a service. It is made if it is new."""
         arguments = dict(template.defaults)
         with_value = service.get("with")
         if isinstance(with_value, Members):
@@ -495,7 +495,7 @@ class Expander:
         )
 
     def steps(self, step: Value) -> Iterator[Items]:
-        """The steps of a machine that one stands for."""
+        """The plain steps of a step of a machine."""
         if isinstance(step, Items):
             one, *guards, action, other = step.items
             yield Items(step.span, [one, self.told(guards[0] if guards else None, step), action, other])
@@ -507,7 +507,7 @@ class Expander:
                 yield Items(step.span, [one, guard, action, other])
 
     def told(self, guard: Value | None, step: Value) -> Value:
-        """A guard as a plain one. One that is written as false stays so, since it is meant."""
+        """The plain form of a guard. A guard that is written as `false` stays so, because it is intended."""
         if guard is None:
             return Constant(step.span, True)
         if word_of(guard) == "false":
@@ -600,7 +600,7 @@ def parameters(value: Members) -> dict[str, str | None]:
 
 
 def states_of_behaviours(document: Members) -> dict[str, str]:
-    """The states of the behaviours, each with the name of the first one that has it."""
+    """The states of the behaviours, each with the name of the first behaviour that has it."""
     found: dict[str, str] = {}
     for behaviour in items_of(document.get("behaviours")):
         name = behaviour.get("name") if isinstance(behaviour, Members) else None
@@ -619,7 +619,7 @@ def states_of_behaviours(document: Members) -> dict[str, str]:
 
 
 def has_short_words(document: Members) -> bool:
-    """Whether a document has members that the short form alone knows."""
+    """Whether a document has members that only the short form has."""
     targets = [document.get("target"), *items_of(document.get("targets"))]
     parts: list[tuple[Sequence[Value | None], tuple[str, ...]]] = [
         ([document.get("environment")], ("variables", "otherwise")),
@@ -652,18 +652,18 @@ def is_false(value: Value | None) -> bool:
 
 
 def span_of(value: Members, *names: str) -> Span:
-    """The place of the first of these members that is present, or else the beginning of the object."""
+    """The place of the first of these members that is present. If there is none, it is the beginning of the object."""
     for name in names:
         if name in value.last:
             return value.last[name].value.span
     return value.span.head
 
 
-# What has not the form of the schema.
+# Deviations from the form of the schema.
 
 
 def told(document: Members, error: ValidationError) -> tuple[Span, str]:
-    """The place of a value of the wrong form, and the mistake."""
+    """The place of a value of the wrong form, and a message."""
     value: Value = document
     for step in error.absolute_path:
         found = value.get(str(step)) if isinstance(value, Members) else items_of(value)[int(step)]

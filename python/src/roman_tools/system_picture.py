@@ -1,4 +1,4 @@
-"""The picture of a document: its environment, behaviours and targets, with what roman-lint finds in them."""
+"""The picture of a document: its environment, behaviours and targets, with the findings of roman-lint."""
 
 from __future__ import annotations
 
@@ -18,33 +18,33 @@ from .reader import Constant, Items, Members, Number, Span, Text, Value
 from .short_form import Worded
 
 WIDEST = 30
-"""How many characters of a loop's label stand in a line, if it can be broken."""
+"""The maximum number of characters in a line of a loop's label, if it can be broken."""
 
 LABELS = 4
-"""How many actions an arrow shows; of more it shows the first ones."""
+"""The maximum number of actions that an arrow shows. Of more actions it shows the first ones."""
 
 KEYS = {"environment": "e", "behaviour": "b", "target": "t"}
-"""What the names of a machine's nodes begin with, by the part."""
+"""The prefix of the names of a machine's nodes, by the part."""
 
 Arrow = tuple[str, str, str]
-"""The state that it leaves, the one that it leads to, and its marks: `guard`, `choice`, `wrong`."""
+"""The state that it leaves, the state to which it leads, and its marks: `guard`, `choice`, `wrong`."""
 
 
 @dataclass
 class Drawn:
-    """A step as it is drawn: its states, its guard in words, its action."""
+    """A step of a picture: its states, its guard in words, and its action."""
 
     state: str
     to: str
     action: str
     guard: str
     holds: set[str] | None
-    """The environment states in which it can be taken; None if they aren't known."""
+    """The environment states in which it can be taken, None if they aren't known."""
     spans: list[Span] = field(default_factory=list)
 
 
 def guard_text(value: Value) -> str:
-    """A guard in words; the empty text if it is always true."""
+    """A guard in words, or the empty text if it is always true."""
     if isinstance(value, Worded):
         return value.words
     if isinstance(value, Constant):
@@ -68,7 +68,7 @@ def bracketed(value: Value) -> str:
 
 
 def word_of(value: Value) -> str:
-    """A name, or what stands in its place."""
+    """A name, or the value in its place."""
     if isinstance(value, Text):
         return value.text
     return value.literal if isinstance(value, Number) else value.word
@@ -83,7 +83,7 @@ def held(value: Value, states: set[str]) -> set[str] | None:
 
 
 class Picture:
-    """Draws the parts of a document as they stand, right or wrong."""
+    """Draws the parts of a document, which may have errors."""
 
     def __init__(self, checker: Checker, findings: Sequence[Finding]) -> None:
         self.checker = checker
@@ -97,7 +97,7 @@ class Picture:
         return next((p for p in self.checker.parts if (p.word, p.number) == (word, number)), None)
 
     def draw(self) -> Any:
-        """All machines, from the environment above to the target; many behaviours in columns."""
+        """Draws all machines, from the environment above to the target below. Many behaviours are in columns."""
         parts = [part for part in self.checker.parts if part.word in KEYS]
         parts.sort(key=lambda part: (list(KEYS).index(part.word), part.number))
         behaviours = [part for part in parts if part.word == "behaviour"]
@@ -118,7 +118,7 @@ class Picture:
             self.picture.edge(f"{key_of(left)} {state}", f"{key_of(right)}  start", style="invis")
 
     def remarks(self) -> None:
-        """What is found elsewhere than in a machine."""
+        """Draws the findings outside of machines."""
         rest = [each for each in self.findings if each not in self.told]
         if rest:
             with self.picture.subgraph(name="cluster_y") as cluster:
@@ -129,7 +129,7 @@ class Picture:
     # Machines.
 
     def machine(self, part: Part) -> None:
-        """A machine as a cluster: its states, where it starts, where it may be left, its steps."""
+        """Draws a machine as a cluster: its states, its start, its final states, and its steps."""
         key = key_of(part)
         mine = [each for each in self.findings if is_about(each, part)]
         self.told.update(mine)
@@ -181,7 +181,7 @@ class Picture:
         return text
 
     def services_of(self, behaviour: Value | None) -> list[str]:
-        """The services of a behaviour, each with what is not as usual."""
+        """The services of a behaviour, each with its deviations from the usual."""
         told = []
         for part in self.checker.parts:
             kind = part.value.get("behaviour") if part.word == "service" else None
@@ -196,7 +196,7 @@ class Picture:
         return told
 
     def step(self, value: Value) -> Drawn | None:
-        """A step, where it has the form of one."""
+        """A step, None if the value doesn't have the form of one."""
         if not isinstance(value, Items) or len(value.items) not in (3, 4):
             return None
         one, *guards, action, other = value.items
@@ -206,8 +206,8 @@ class Picture:
         return Drawn(word_of(one), word_of(other), word_of(action), text, holds, spans)
 
     def arrows(self, steps: Sequence[Drawn], wrong: dict[Span, Finding]) -> dict[Arrow, list[str]]:
-        """The arrows with their labels: those with equal ends and marks as one, and on each state one loop,
-        since several would be drawn over one another."""
+        """The arrows with their labels. Steps with equal ends and marks share an arrow. Each state has at most one
+        loop, because several would overlap."""
         found: dict[Arrow, dict[str, None]] = {}
         for step in steps:
             marks = "guard" if step.guard else ""
@@ -227,7 +227,7 @@ class Picture:
         return {arrow: list(labels) for arrow, labels in merged.items()}
 
     def legend(self) -> None:
-        """What the marks mean."""
+        """Draws the legend of the marks."""
         with self.picture.subgraph(name="cluster_z") as cluster:
             cluster.attr(label="how to read it", labeljust="l", style="rounded,dotted", fontcolor=FADED)
             cluster.node("z  start", shape="point", width="0.12", label="")
@@ -245,7 +245,7 @@ class Picture:
 
 
 def key_of(part: Part) -> str:
-    """What the names of a machine's nodes begin with."""
+    """The prefix of the names of a machine's nodes."""
     return KEYS[part.word] + ("" if part.word == "environment" else str(part.number))
 
 
@@ -264,7 +264,7 @@ def within(inner: Span, outer: Span) -> bool:
 
 
 def is_about(finding: Finding, part: Part) -> bool:
-    """Whether something is found in a part. The behaviours that are made from one pattern share its place."""
+    """Whether a finding is about a part. The behaviours that are made from one pattern share its place."""
     return within(finding.span, part.value.span) and finding.part in (None, (part.word, part.number))
 
 
@@ -274,7 +274,7 @@ def note(finding: Finding) -> str:
 
 
 def without_loops(steps: Sequence[Drawn], states: Sequence[str]) -> tuple[list[Drawn], list[str]]:
-    """The steps of the environment without those of actions that leave each of its states, and these actions."""
+    """The steps of the environment, without those of actions that keep each of its states, and these actions."""
     moves: dict[str, set[tuple[str, str]]] = {}
     for step in steps:
         moves.setdefault(step.action, set()).add((step.state, step.to))
@@ -286,7 +286,8 @@ def without_loops(steps: Sequence[Drawn], states: Sequence[str]) -> tuple[list[D
 
 
 def has_choice(one: Drawn, steps: Iterable[Drawn]) -> bool:
-    """Whether something else than that step may come of its action, where it can be taken."""
+    """Whether the action of a step may also take another step, in a state of the environment in which both are
+    possible."""
     return any(
         other.state == one.state
         and other.action == one.action
@@ -297,12 +298,12 @@ def has_choice(one: Drawn, steps: Iterable[Drawn]) -> bool:
 
 
 def is_wrong(step: Drawn, wrong: dict[Span, Finding]) -> bool:
-    """Whether something is found in a step that isn't drawn at one of its states."""
+    """Whether a step has a finding that isn't drawn at one of its states."""
     return any(within(span, each) for span in wrong for each in step.spans)
 
 
 def label_of(action: str, guard: str, marks: str, is_loop: bool = False) -> str:
-    """The label of an arrow. That of a loop is broken into lines, since it stands above its state."""
+    """The label of an arrow. That of a loop is broken into lines, because it is above its state."""
     colour = WRONG if "wrong" in marks else CHOICE if "choice" in marks else PLAIN
     text = coloured(action, colour)
     if guard:
@@ -316,15 +317,15 @@ def label_of(action: str, guard: str, marks: str, is_loop: bool = False) -> str:
 
 
 def room_of(labels: Iterable[str]) -> str:
-    """How far a machine's frame stands from its states: Graphviz leaves no room at their sides for labels of loops."""
+    """The distance of a machine's frame from its states. Graphviz leaves no room at their sides for labels of loops."""
     rows = [row for label in labels for row in re.sub("<FONT[^>]*>|</?(FONT|I)>", "", label).split("<BR/>")]
     widest = max((len(row) for row in rows), default=0)
     return str(max(8, 3 * widest - 36))
 
 
 def arrow_options(marks: str, labels: Sequence[str]) -> dict[str, str]:
-    """How an arrow looks: a guard makes it dashed, a choice of the service orange, from a dot, and a finding
-    red."""
+    """The look of an arrow. With a guard it is dashed. A choice of the service is orange and begins with a dot. With a
+    finding it is red."""
     shown = list(labels)
     if len(shown) > LABELS:
         shown = shown[: LABELS - 1] + [coloured(f"and {len(labels) - LABELS + 1} more", FADED)]

@@ -1,8 +1,8 @@
 """roman-talk SYSTEM: a session for people.
 
-At a terminal it has a history, completes the names that are allowed now, and says what a line may be (`help`). With
-a session that comes in, as `roman-talk SYSTEM < FILE`, it shows each line beside its reply. SYSTEM may be in the
-short form.
+Runs a session of the program. At a terminal it has a history, completes the names that are allowed now, and explains
+the possible lines (`help`). If a session is on the standard input, as in `roman-talk SYSTEM < FILE`, it shows each line
+beside its reply. SYSTEM may be in the short form.
 """
 
 from __future__ import annotations
@@ -58,20 +58,21 @@ EVENTS: dict[str, tuple[str, str]] = {
     "help": ("", "what a line may be, and which names are allowed now"),
     "quit": ("", "end the session"),
 }
-"""What a line may be: its names, and what it does."""
+"""The possible lines by their first word: their names, and their meaning."""
 
 REMEDIES = 5
-"""How many remedies `help` names at most."""
+"""The maximum number of remedies that `help` lists."""
 
 WIDTH = 30
-"""How wide the column of the lines is, beside their replies."""
+"""The width of the column of lines, beside that of replies."""
 
 
 STUCK = "the target can go no further here, and isn't final"
 
 
 def due(action: str | None, offered: Sequence[str], used: str | None, allowed: Sequence[str]) -> str:
-    """Which line is due: the request that is open, to whom it is offered, who serves it; else what is allowed."""
+    """Describes the line that is due: for the open request, with the offered services or the one that serves it. If no
+    request is open, it describes the allowed requests."""
     if used is not None:
         return f"{action} is open: saw, with the states of {used} and of the environment, or abort"
     if action is not None:
@@ -84,15 +85,15 @@ OUT_OF_TURN = ("error busy", "error idle", "error related")
 
 
 def out_of_turn(reply: str, line: str) -> str:
-    """What is shown below one of these refusals."""
+    """The hint below one of these refusals."""
     return f"there is a composition, so nothing is to be explained; {line}" if reply == "error related" else line
 
 
-# A session that comes in.
+# A session on the standard input.
 
 
 class Follower:
-    """Where a session stands, by its lines and their replies."""
+    """Tracks the states of a session, by its lines and their replies."""
 
     def __init__(self, document: Document) -> None:
         self.document = document
@@ -103,7 +104,7 @@ class Follower:
         self.used: str | None = None
 
     def hear(self, line: Sequence[str], reply: Sequence[str]) -> None:
-        """Takes a line and the words of its reply."""
+        """Receives the words of a line and of its reply."""
         if reply[0] == "offer":
             self.action, self.offered = line[1], tuple(reply[1:])
         elif reply[0] == "using":
@@ -123,7 +124,7 @@ class Follower:
         return due(self.action, self.offered, self.used, self.allowed)
 
     def hint(self, reply: str) -> str | None:
-        """What is shown below a reply, if anything."""
+        """The hint below a reply, None if there is none."""
         if reply in OUT_OF_TURN:
             return out_of_turn(reply, self.due())
         if reply.startswith("now ") and not self.allowed and not self.document.is_final(self.target):
@@ -131,7 +132,7 @@ class Follower:
         return None
 
     def help(self) -> list[str]:
-        """What a line may be now."""
+        """Describes the lines that are possible now."""
         words = turn_words(self.action, self.used) or [word for word in EVENTS if word not in ("use", "saw", "abort")]
         return [*help_lines(words), f"  now: {self.due()}"]
 
@@ -144,13 +145,13 @@ def turn_words(action: str | None, used: str | None) -> list[str]:
 
 
 def help_lines(words: Sequence[str]) -> list[str]:
-    """What lines that begin with these words do."""
+    """Describes the lines that begin with these words."""
     return [f"  {word + ' ' + EVENTS[word][0]:36} {EVENTS[word][1]}" for word in words]
 
 
 def beside(lines: Sequence[str], replies: Sequence[str], follower: Follower) -> Iterator[str]:
-    """Each line beside its reply, and below one that is out of turn which is due. Comments and blank lines have
-    none; those to `report` and `explain` go on up to the line `end`."""
+    """Each line beside its reply. A line out of turn has a hint below it. Comments and blank lines have no reply. Those
+    to `report` and `explain` continue up to the line `end`."""
     rest = iter(replies)
     for line in lines:
         words = line.split()
@@ -179,7 +180,7 @@ def beside(lines: Sequence[str], replies: Sequence[str], follower: Follower) -> 
 
 @contextlib.contextmanager
 def document_of(checker: Checker) -> Iterator[str]:
-    """A file that the program reads: the document itself, or the plain one of a short one."""
+    """A file that the program reads: the document itself, or the plain form of a short one."""
     if checker.document is None or not checker.short:
         yield checker.name
     else:
@@ -188,7 +189,8 @@ def document_of(checker: Checker) -> Iterator[str]:
 
 
 def echo(checker: Checker, document: Document, roman: str, data: bytes) -> int:
-    """Runs a session that is whole, and shows it beside the replies. The program gets no `help`, which it hasn't."""
+    """Runs a complete session, and shows it beside the replies. Lines with `help` aren't sent to the program, which
+    doesn't have it."""
     with document_of(checker) as file, tempfile.TemporaryFile() as session:
         session.write(re.sub(rb"^[ \t]*help[ \t]*(?=\r?$)", b"", data, flags=re.M))
         session.seek(0)
@@ -204,7 +206,7 @@ def echo(checker: Checker, document: Document, roman: str, data: bytes) -> int:
 
 
 class Talk:
-    """A session with what may be said in it next."""
+    """A session, with the possible next lines."""
 
     def __init__(self, document: Document, session: Session) -> None:
         self.document = document
@@ -213,7 +215,7 @@ class Talk:
         self.offer: Offer | None = None
         self.used: str | None = None
 
-    # What may be said.
+    # Possible lines.
 
     def states_of(self, behaviour: str) -> list[str]:
         found = self.document.behaviours.get(behaviour)
@@ -223,8 +225,8 @@ class Talk:
         return next((self.states_of(s.behaviour) for s in self.report.services if s.name == name), [])
 
     def allowed(self) -> list[str]:
-        """The actions that the target allows in the present states: those for which the program offers
-        something, or for which it would where there is no composition."""
+        """The actions that the target allows in the present states. If there is a composition, the program offers
+        services for them."""
         if self.report.composition:
             return list(self.report.offers)
         return list(self.document.allowed(self.report.target, self.report.environment))
@@ -243,7 +245,7 @@ class Talk:
         return [word for word in EVENTS if word not in refused]
 
     def names(self, words: Sequence[str]) -> list[str]:
-        """The names that may come behind these words."""
+        """The names that may follow these words."""
         event, given = words[0], words[1:]
         environments = list(self.document.environment.states)
         services = [service.name for service in self.report.services]
@@ -265,13 +267,13 @@ class Talk:
         return lists[len(given)] if len(given) < len(lists) else []
 
     def complete(self, before: str, text: str) -> list[str]:
-        """The words that may stand where that one is begun."""
+        """The completions of a word that is begun as `text`, after the line `before`."""
         words = before.split()
         known = self.names(words) if words else self.events()
         return [f"{each} " for each in known if each.startswith(text)]
 
     def help(self) -> str:
-        """What a line may be now."""
+        """Describes the lines that are possible now."""
         now = self.events()
         lines = help_lines(now)
         for word in now:
@@ -296,15 +298,15 @@ class Talk:
         return not self.report.final and not self.allowed()
 
     def remedies(self) -> list[str]:
-        """What would help if there is no composition."""
+        """Describes the changes that would help if there is no composition."""
         found = mend(self.document, self.report, program=self.session.core.words)
         shown = [f"  now: {remedy.lines[0]} would help ({remedy})" for remedy in first_of_each(found, REMEDIES)]
         return shown or ["  now: no single change would help; roman-mend --two tries pairs"]
 
-    # What is said.
+    # Answers.
 
     def answer(self, line: str) -> str:
-        """Says a line to the session, and gives what is shown."""
+        """Sends a line to the session, and returns the text to show."""
         event, *given = line.split()
         if event == "help":
             return self.help()
@@ -325,10 +327,10 @@ class Talk:
         except Refusal as refusal:
             return refusal.reply + self.unknown(event, given)
         except ValueError as error:
-            return str(error)  # A key that writes no letter was pressed.
+            return str(error)  # The line has a control character.
 
     def unknown(self, event: str, given: Sequence[str]) -> str:
-        """Behind a refusal the word that isn't known, and those that are."""
+        """An addition to a refusal: the unknown word, and the known ones."""
         for place, word in enumerate(given):
             if event == "join" and place == 0:
                 continue
@@ -362,7 +364,7 @@ class Talk:
         return told
 
     def changed(self, event: str, given: Sequence[str]) -> str:
-        """The reply to an event after which something else may be said."""
+        """The reply to an event that changes the possible lines."""
         session = self.session
         if event == "saw":
             move = session.saw(given[0], given[1])
@@ -415,7 +417,7 @@ def shown(report: Report, document: Document) -> str:
 
 
 def prepare(talk: Talk) -> None:
-    """The history, and the completion of names."""
+    """Prepares the history, and the completion of names."""
     history = Path(os.environ.get("XDG_STATE_HOME") or Path.home() / ".local" / "state") / "roman" / "history"
     with contextlib.suppress(OSError):
         readline.read_history_file(history)
@@ -436,7 +438,7 @@ def prepare(talk: Talk) -> None:
 
 
 def talk_at_terminal(checker: Checker, document: Document, roman: str) -> int:
-    """Asks for lines until the end."""
+    """Reads lines at a terminal until the end."""
     with document_of(checker) as file, Session(file, program=roman) as session:
         talk = Talk(document, session)
         prepare(talk)
@@ -467,7 +469,7 @@ def unproved() -> str | None:
 def main(arguments: Sequence[str] | None = None) -> int:
     words = argparse.ArgumentParser(prog="roman-talk", description=(__doc__ or "").split("\n\n", 1)[1])
     words.add_argument("system", metavar="SYSTEM")
-    words.add_argument("--program", metavar="ROMAN", help="the program that answers")
+    words.add_argument("--program", metavar="ROMAN", help="the program to call")
     asked = words.parse_args(arguments)
     try:
         checker = read(asked.system)
@@ -484,7 +486,7 @@ def main(arguments: Sequence[str] | None = None) -> int:
         return echo(checker, checker.document, roman, sys.stdin.buffer.read())
     except OSError as error:
         if error.filename is None:
-            raise  # What it writes can't be written.
+            raise  # The output can't be written.
         print(f"roman-talk: {error.filename}: {error.strerror}", file=sys.stderr)
         return UNREADABLE
     except ProgramEnded as ended:

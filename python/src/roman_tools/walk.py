@@ -1,4 +1,4 @@
-"""The states that a target reaches together with its environment, and those in which it can go no further."""
+"""The states that a target reaches together with its environment, and those from which it can't continue."""
 
 from __future__ import annotations
 
@@ -18,7 +18,8 @@ class Pair(NamedTuple):
 
 @dataclass(frozen=True)
 class Stuck:
-    """A pair in which a target isn't final and nothing is allowed: the target, and the requests that lead there."""
+    """A pair that isn't final and allows no request. `target` is the index of a target that isn't final. `way` has the
+    requests that lead to the pair."""
 
     target: int
     pair: Pair

@@ -10,7 +10,7 @@ from .explanations import Play, last_explanation
 
 
 def explained(roman: str, document: Document) -> Play | None:
-    """The explanation of the starting states; None if there is a composition. OSError if the program can't be
+    """The explanation of the starting states, None if there is a composition. Raises OSError if the program can't be
     called."""
     with plain_file(document) as file:
         done = program.run(roman, "run", file, text="explain\n")
@@ -19,7 +19,7 @@ def explained(roman: str, document: Document) -> Play | None:
 
 
 def first_step(play: Play, name: str) -> list[str]:
-    """The first step of an explanation, how to see the rest, and what finds changes that help."""
+    """The first step of an explanation, and the commands that show the rest and find changes that help."""
     first, *rest = play.first_step()
     return [
         f"why: {first}",

@@ -1,4 +1,4 @@
-"""Plain documents as texts, of the least version, with guards and steps in the shortest form."""
+"""Writes plain documents with the least possible version, and with guards and steps in the shortest form."""
 
 from __future__ import annotations
 
