@@ -1,7 +1,7 @@
 # Completion of roman's commands, of its tools and of file names for bash. It needs no other file.
 
 _roman_files() {
-    # Files whose names end so, and folders; all files where there is none.
+    # Folders, and files whose names end so. All files if there are none.
     local ending IFS=$'\n'
     compopt -o filenames 2>/dev/null
     COMPREPLY+=($(compgen -d -- "$word"))

@@ -4,19 +4,19 @@ function __roman_words
     commandline -opc | count
 end
 
-function __roman_file --description 'Whether the word that comes now has that place, after one of these commands'
+function __roman_file --description 'Whether the next word has that place, after one of these commands'
     test (__roman_words) -eq $argv[1]; and contains -- (commandline -opc)[2] (string split , $argv[2])
 end
 
 complete -c roman -f
 complete -c roman -n 'test (__roman_words) -eq 1' -a synth -d 'report on the starting states'
 complete -c roman -n 'test (__roman_words) -eq 1' -a run -d 'answer the lines of a session'
-complete -c roman -n 'test (__roman_words) -eq 1' -a certify -d 'write a certificate of what is related'
+complete -c roman -n 'test (__roman_words) -eq 1' -a certify -d 'write a certificate of the lost pairs'
 complete -c roman -n 'test (__roman_words) -eq 1' -a check -d 'check a certificate'
 complete -c roman -n 'test (__roman_words) -eq 1' -a make -d 'make a large system of workers'
-complete -c roman -n 'test (__roman_words) -eq 1' -a resilience -d 'say what is left where services fail'
-complete -c roman -n 'test (__roman_words) -eq 1' -a shortest -d 'say within how many requests pairs are lost'
-complete -c roman -n 'test (__roman_words) -eq 1' -a advise -d 'say what requests cost at worst'
+complete -c roman -n 'test (__roman_words) -eq 1' -a resilience -d 'report what remains if services fail'
+complete -c roman -n 'test (__roman_words) -eq 1' -a shortest -d 'report within how many requests pairs are lost'
+complete -c roman -n 'test (__roman_words) -eq 1' -a advise -d 'report what requests cost at worst'
 complete -c roman -n '__roman_file 2 make' -a '(seq 10)'
 complete -c roman -k -n '__roman_file 2 synth,run,certify,check,resilience,shortest,advise' -a '(__fish_complete_suffix .json)'
 complete -c roman -k -n '__roman_file 3 run' -a '(__fish_complete_suffix .session)'
@@ -52,11 +52,11 @@ complete -c roman-advice -l all -d 'show all rows'
 
 complete -c roman-live -k -a '(__fish_complete_suffix .toml)'
 complete -c roman-live -n 'test (__roman_words) -eq 1' -a ask -d 'ask a running home for an action'
-complete -c roman-live -n 'not __fish_seen_subcommand_from ask history' -l check -d 'say what is wrong with the file'
+complete -c roman-live -n 'not __fish_seen_subcommand_from ask history' -l check -d 'check the file, and call no device'
 complete -c roman-live -n 'not __fish_seen_subcommand_from ask history' -l simulate -d 'play all devices by hand, on the page'
-complete -c roman-live -n 'not __fish_seen_subcommand_from ask history' -l verbose -d 'say each event'
-complete -c roman-live -n 'test (__roman_words) -eq 1' -a history -d 'show who asked, who served and why'
-complete -c roman-live -n '__fish_seen_subcommand_from history' -l service -x -d 'show this service alone'
-complete -c roman-live -n '__fish_seen_subcommand_from history' -l since -x -d 'show what came since a time'
+complete -c roman-live -n 'not __fish_seen_subcommand_from ask history' -l verbose -d 'log each event'
+complete -c roman-live -n 'test (__roman_words) -eq 1' -a history -d 'show requests, failures and changes'
+complete -c roman-live -n '__fish_seen_subcommand_from history' -l service -x -d 'show only this service'
+complete -c roman-live -n '__fish_seen_subcommand_from history' -l since -x -d 'show entries since a time'
 complete -c roman-live -n '__fish_seen_subcommand_from history' -l json -d 'write lines of JSON'
-complete -c roman-live -n '__fish_seen_subcommand_from ask' -l key -x -d 'a text that no other request has'
+complete -c roman-live -n '__fish_seen_subcommand_from ask' -l key -x -d 'a unique text for the request'

@@ -36,15 +36,15 @@ _roman_tool() {
 
 _roman_live() {
     if [[ $words[2] == ask ]]; then
-        _arguments '1: :(ask)' '--key[a text that no other request has]:key:' '2:home:_files -g "*.toml"' '3:action:'
+        _arguments '1: :(ask)' '--key[a unique text for the request]:key:' '2:home:_files -g "*.toml"' '3:action:'
     elif [[ $words[2] == history ]]; then
-        _arguments '1: :(history)' '--service[show this service alone]:service:' '--since[show what came since]:time:' \
+        _arguments '1: :(history)' '--service[show only this service]:service:' '--since[show entries since]:time:' \
             '--json[write lines of JSON]' '2:home:_files -g "*.toml"'
     elif [[ $CURRENT == 2 && $words[2] == [ah]* ]]; then
         _values command ask history
     else
-        _arguments '--check[say what is wrong with the file]' '--simulate[play all devices by hand, on the page]' \
-            '--verbose[say each event]' ':home:_files -g "*.toml"'
+        _arguments '--check[check the file, and call no device]' '--simulate[play all devices by hand, on the page]' \
+            '--verbose[log each event]' ':home:_files -g "*.toml"'
     fi
 }
 
@@ -61,12 +61,12 @@ _roman() {
     commands=(
         'synth:report on the starting states'
         'run:answer the lines of a session'
-        'certify:write a certificate of what is related'
+        'certify:write a certificate of the lost pairs'
         'check:check a certificate'
         'make:make a large system of workers'
-        'resilience:say what is left where services fail'
-        'shortest:say within how many requests pairs are lost'
-        'advise:say what requests cost at worst'
+        'resilience:report what remains if services fail'
+        'shortest:report within how many requests pairs are lost'
+        'advise:report what requests cost at worst'
     )
     case $CURRENT:$words[2] in
         2:*) _describe command commands ;;

@@ -1,13 +1,13 @@
 #!/usr/bin/env python3
 """Runs simulated devices that fail at random, and checks that no offered request ends in a dead end.
 
-The devices are those of a document, by default the home of the samples. Each answers as one of its
-transitions says; now and then it fails, or reports an outcome that it can't have had, and is away for
-some requests; somebody moves a device by hand, and the environment changes by itself. Requests are drawn
-from those that the target allows, and offered services are drawn too.
+The devices are those of a document, by default the home of the samples. Each answers by one of its transitions, drawn
+at random. Sometimes it fails or reports an impossible outcome, and is away for some requests. Sometimes a person moves
+a device by hand, or the environment changes by itself. Requests are drawn from those that the target allows, and so are
+the offered services.
 
-Checked is what `roman` promises: once a request was offered something, each request that the target allows
-is, until the next change; and where the target may be left, each service may be.
+The demonstration checks what `roman` promises. Once a request had an offer, each request that the target allows has
+one, until the next change. If the target is final, so is each service that isn't loose.
 """
 
 from __future__ import annotations
@@ -25,11 +25,11 @@ TOP = Path(__file__).resolve().parents[2]
 
 
 class DeadEnd(BaseException):
-    """A promise was broken. It is no Exception, so that it isn't taken for a device's failure."""
+    """A promise was broken. It isn't an Exception, because the dispatcher would take that for a device's failure."""
 
 
 class World:
-    """The devices behind the services, and what they share."""
+    """The devices behind the services, and the states of target and environment."""
 
     def __init__(self, document: Document, chance: random.Random, failing: float) -> None:
         self.document = document
@@ -49,7 +49,7 @@ class World:
         return list(self.document.allowed(self.target, self.environment))
 
     def outcomes(self, service: str, action: str) -> list[tuple[str, str]]:
-        """What may come of an action: the states of the service, with those of the environment."""
+        """The possible outcomes of an action: the states of the service, with those of the environment."""
         behaviour, state = self.behaviours[service].name, self.states[service]
         return list(self.document.outcomes(behaviour, state, self.environment, action))
 
@@ -86,7 +86,7 @@ class World:
         return True
 
     def rests(self) -> bool:
-        """Whether the target may not be left, or each service may be left too."""
+        """Whether the target isn't final, or each service that isn't loose is final, too."""
         return not self.document.is_final(self.target) or all(
             self.states[service] in behaviour.final
             for service, behaviour in self.behaviours.items()
@@ -95,7 +95,7 @@ class World:
 
 
 class Demonstration:
-    """Requests drawn at random, with what is checked of them."""
+    """Makes requests at random, and checks them."""
 
     def __init__(self, session: Session, world: World) -> None:
         self.session = session
@@ -116,7 +116,7 @@ class Demonstration:
         return lambda action: self.world.device(service, action)
 
     def draw(self, choice: Choice) -> str:
-        """A policy: any of the offered ones. Each of them can take the request."""
+        """A policy that draws one of the offered services. It checks that each of them can take the request."""
         self.offered_at = self.session.changes
         for service in choice.offered:
             if not self.world.outcomes(service, choice.action):
@@ -124,11 +124,11 @@ class Demonstration:
         return self.world.chance.choice(choice.offered)
 
     def remember(self) -> None:
-        """Keeps the states, to which a person may bring the devices back."""
+        """Stores the states to which a person may bring the devices back."""
         self.good = (dict(self.world.states), self.world.environment)
 
     def disturb(self) -> None:
-        """Somebody moves a device by hand, or the environment changes by itself."""
+        """Moves a device by hand, or changes the environment."""
         world = self.world
         self.by_hand += 1
         if world.chance.random() < 0.5:
@@ -140,7 +140,7 @@ class Demonstration:
             self.session.jump(service, world.states[service])
 
     def put_right(self) -> None:
-        """A person brings the devices back to where they stood after the last request."""
+        """Brings the devices back to their states after the last request."""
         self.by_hand += 1
         states, environment = self.good
         for service, state in states.items():
@@ -151,7 +151,7 @@ class Demonstration:
         self.world.states, self.world.environment = dict(states), environment
 
     def turn(self) -> None:
-        """One request, and what is checked of it."""
+        """Makes a request, and checks it."""
         world = self.world
         if world.chance.random() < world.failing / 4:
             self.disturb()
@@ -174,7 +174,7 @@ class Demonstration:
             raise DeadEnd("the target may be left, and a service may not")
 
     def explained(self, refusal: NoComposition) -> None:
-        """No composition: that must come from a change, and has an explanation."""
+        """Checks that the lack of a composition follows a change, and has an explanation."""
         self.refused += 1
         if self.offered_at == self.session.changes:
             raise DeadEnd(f"{refusal.line} has no composition, and nothing changed since an offer")
@@ -188,7 +188,7 @@ def main() -> int:
     parse = argparse.ArgumentParser(description=(__doc__ or "").splitlines()[0])
     parse.add_argument("system", nargs="?", default=str(TOP / "samples" / "home.json"))
     parse.add_argument("--requests", type=int, default=5000)
-    parse.add_argument("--failing", type=float, default=0.05, help="how often a device fails")
+    parse.add_argument("--failing", type=float, default=0.05, help="the probability that a device fails")
     parse.add_argument("--seed", type=int, default=1)
     parse.add_argument("--program", default=os.environ.get("ROMAN", str(TOP / "roman")))
     words = parse.parse_args()

@@ -12,20 +12,20 @@ from enum import Enum
 from .limits import Bucket
 
 TOKEN_BITS = 128
-"""How many bits a token needs at least, if it is random."""
+"""The minimum number of bits of a token, if it is random."""
 
 LEAST_LETTERS = 8
-"""How many different letters a token needs at least."""
+"""The minimum number of different characters of a token."""
 
 GUESSES, GUESSES_A_SECOND = 10, 0.2
-"""How many wrong tokens may come from an address at once, and how many a second after that."""
+"""The number of wrong tokens that an address may send at once, and the number for each second after that."""
 
 ADDRESSES = 1000
-"""From how many addresses, and how many, wrong tokens are remembered."""
+"""The maximum number of addresses that are remembered for their wrong tokens, and of wrong tokens."""
 
 
 LONGEST_TOKEN = 1024
-"""The most letters of a token."""
+"""The maximum length of a token."""
 
 
 class Role(Enum):
@@ -57,13 +57,13 @@ class Access:
             if _is_same(shown, token):
                 return role
         shown = shown[:LONGEST_TOKEN]
-        if shown not in self._wrong:  # An old one that a browser sends again and again isn't a guess.
+        if shown not in self._wrong:  # An old token that a browser sends repeatedly isn't a guess.
             self._wrong.append(shown)
             guesses.take()
         return None
 
     def _guesses_of(self, address: str) -> Bucket:
-        """The guesses of an address, which is used up last again."""
+        """The guesses of an address, which becomes the most recently used one."""
         place = _network(address)
         bucket = self._guesses.pop(place, None) or Bucket(GUESSES, GUESSES_A_SECOND)
         self._guesses[place] = bucket
@@ -73,7 +73,7 @@ class Access:
 
 
 def bits(token: str) -> float:
-    """How many bits a random token of this length and these kinds of letters has."""
+    """The number of bits of a random token of this length, with characters of these kinds."""
     if len(set(token)) < LEAST_LETTERS:
         return 0.0
     if all(letter in string.hexdigits for letter in token):
@@ -86,7 +86,7 @@ def bits(token: str) -> float:
 
 
 def _network(address: str) -> str:
-    """An address as one that guesses: of IPv6 the network, since a machine has many addresses in it."""
+    """The address for which guesses are counted. For IPv6 it is the network, because a machine has many addresses."""
     try:
         place = ipaddress.ip_address(address)
     except ValueError:
@@ -95,5 +95,5 @@ def _network(address: str) -> str:
 
 
 def _is_same(shown: str, token: str) -> bool:
-    # Headers are read with what isn't UTF-8 in them kept.
+    # Headers may have bytes that aren't UTF-8, which are read as surrogates.
     return hmac.compare_digest(shown.encode(errors="surrogateescape"), token.encode())

@@ -1,4 +1,4 @@
-"""What is under way in a home."""
+"""The present activity of a home."""
 
 from __future__ import annotations
 
@@ -16,9 +16,9 @@ from .sources import reason
 
 @dataclass
 class Activity:
-    """The service that was `chosen` for the open request, until its answer comes; the call that is under way, and
-    since when; the failures at that request; the reason of the last choice; and whether a change that a device
-    reported comes before the next choice."""
+    """The present activity: the service that was `chosen` for the open request, until its answer comes, the call that
+    is under way with its time, and the failures at the request. It also has the reason of the last choice, and whether
+    a change that a device reported comes before the next choice."""
 
     chosen: str | None = None
     call: tuple[Call, str] | None = None
@@ -29,7 +29,7 @@ class Activity:
     """Whether a service was chosen for the next request while the end of the last one isn't written."""
 
     def asked(self, call: Call, since: str) -> None:
-        """The chosen service is asked."""
+        """Begins a call of the chosen service."""
         self.call, self.is_ahead = (call, since), False
 
     def is_at(self, service: str) -> bool:
@@ -44,7 +44,7 @@ class Activity:
 
 
 class Chooser:
-    """The policy of a home. It makes no choice while something moves: its offer may be outdated."""
+    """The policy of a home. While something moves, it refuses to choose, because the offer may be outdated."""
 
     def __init__(self, policy: Choose, name: str, activity: Activity) -> None:
         self.policy = policy
@@ -52,8 +52,8 @@ class Chooser:
         self._activity = activity
 
     async def __call__(self, choice: Choice) -> Chosen:
-        """The chosen service, with the reason for the history. Raises `MovedMeanwhile`, and
-        `NoSpace` if no device can be asked for want of files."""
+        """Returns the chosen service, with the reason for the history. Raises `MovedMeanwhile`, and `NoSpace` if the
+        system has no file for a call of a device."""
         self._check()
         check_files()
         service = await self.policy(choice)

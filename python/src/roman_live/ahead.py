@@ -11,15 +11,14 @@ from roman_client.aio.dispatcher import settle
 from roman_client.core import Ahead
 
 LATEST = 0.01
-"""The most seconds that a served request waits for the next one, to be written with it."""
+"""The maximum number of seconds that the end of a request waits to be written with the next call."""
 
 WORTH = 0.0001
-"""If a commit takes more seconds, a turn of the loop is worth its cost for a request that is alone: others may come in
-it."""
+"""If a commit takes more seconds, a single request waits for a turn of the loop, in which others may come."""
 
 
 class HomeDispatcher(aio.Dispatcher):
-    """The dispatcher of a home. While requests wait, each request needs one sync of the disk in place of two."""
+    """The dispatcher of a home. While requests wait, each request needs one sync of the disk instead of two."""
 
     _timer: asyncio.TimerHandle | None = None
     _until = 0.0

@@ -16,14 +16,14 @@ Value = TypeVar("Value")
 
 
 async def finished(work: Coroutine[Any, Any, Value]) -> Value:
-    """The value of a coroutine that goes on if its caller is cancelled. Then its error is dropped."""
+    """Returns the value of a coroutine, which continues if its caller is cancelled. Its error is dropped then."""
     task = asyncio.ensure_future(work)
     task.add_done_callback(lambda task: task.cancelled() or task.exception())
     return await asyncio.shield(task)
 
 
 async def happens(event: asyncio.Event, seconds: float | None) -> bool:
-    """Waits for an event, and returns whether it came in that time. None means without end."""
+    """Waits for an event, and returns whether it came in that time. None is no limit."""
     with contextlib.suppress(TimeoutError):
         async with asyncio.timeout(seconds):
             await event.wait()
@@ -44,7 +44,7 @@ class Background:
         return task
 
     async def run_here(self, work: Coroutine[Any, Any, Value]) -> Value:
-        """The value of a coroutine. Until then the present task is one of those in the background."""
+        """Returns the value of a coroutine. While it runs, the present task is one of those in the background."""
         task = asyncio.current_task()
         assert task is not None
         self._tasks.add(task)

@@ -24,48 +24,49 @@ from .systemd import Supervisor, begin_log, complain, greet
 LOG = logging.getLogger("roman_live")
 
 DONE, NO, USAGE, FAILED = 0, 1, 2, 3
-"""The statuses: all is well; the request wasn't served; the words or the home file are wrong; it couldn't
-be begun, or nobody was there to ask."""
+"""The statuses: success; the request wasn't served; the arguments or the home file are wrong; the home couldn't be
+started or asked."""
 
 INTERRUPTED = 130
 """The status of `ask` on Ctrl-C."""
 
 PATIENCE = 20.0
-"""How many seconds an open request has to come to its end, before the home ends as if it were killed."""
+"""The number of seconds that an open request has to end, before the home ends as if it were killed."""
 
 
 def parser() -> argparse.ArgumentParser:
-    """The words of the command."""
+    """The parser of the command's arguments."""
     words = argparse.ArgumentParser(
         prog="roman-live",
         usage="roman-live [--check] [--simulate] [--verbose] HOME.toml\n"
         "       roman-live ask [--key KEY] HOME.toml ACTION\n"
         "       roman-live history [--service S] [--since T] [--json] HOME.toml",
-        description="Runs the home that HOME.toml describes, until it is ended; or asks a running one for an action.",
+        description="Runs the home that HOME.toml describes, until it is ended, or asks a running one for an action.",
     )
-    words.add_argument("--check", action="store_true", help="say what is wrong with the file, and ask no device")
+    words.add_argument("--check", action="store_true", help="check the file, and call no device")
     words.add_argument("--simulate", action="store_true", help="play all devices by hand, on the page")
-    words.add_argument("--verbose", action="store_true", help="say each event")
+    words.add_argument("--verbose", action="store_true", help="log each event")
     words.add_argument("home", metavar="HOME.toml")
     return words
 
 
 def ask_parser() -> argparse.ArgumentParser:
-    """The words of `ask`."""
+    """The parser of the arguments of `ask`."""
     words = argparse.ArgumentParser(prog="roman-live ask", description="Asks a running home for an action.")
-    words.add_argument("--key", help="a text that no other request has: asked again, it isn't served twice")
+    words.add_argument("--key", help="a unique text: a request that is repeated with it isn't served twice")
     words.add_argument("home", metavar="HOME.toml")
     words.add_argument("action", metavar="ACTION")
     return words
 
 
 def history_parser() -> argparse.ArgumentParser:
-    """The words of `history`."""
+    """The parser of the arguments of `history`."""
     words = argparse.ArgumentParser(
-        prog="roman-live history", description="Shows who asked a home, who served and why, what failed and changed."
+        prog="roman-live history",
+        description="Shows the history of a home: requests with sources, services and reasons, failures, and changes.",
     )
-    words.add_argument("--service", metavar="S", help="show this service alone")
-    words.add_argument("--since", metavar="T", type=time_of, default=0.0, help="show what came since 2026-11-30T14:05")
+    words.add_argument("--service", metavar="S", help="show only this service")
+    words.add_argument("--since", metavar="T", type=time_of, default=0.0, help="show entries since 2026-11-30T14:05")
     words.add_argument("--json", action="store_true", help="write a line of JSON for each entry")
     words.add_argument("home", metavar="HOME.toml")
     return words
@@ -79,7 +80,7 @@ def show_history(given: argparse.Namespace) -> int:
 
 
 def main(words: Sequence[str] | None = None) -> int:
-    """Runs the command that the words name, by default those of the command line, and returns the status."""
+    """Runs the command with these arguments, by default those of the process, and returns the status."""
     words = sys.argv[1:] if words is None else words
     try:
         if words[:1] == ["ask"]:
@@ -106,7 +107,7 @@ def main(words: Sequence[str] | None = None) -> int:
 
 
 async def begun(file: HomeFile, simulate: bool, ending: asyncio.Event) -> Home | None:
-    """Starts a home. None if it is to end before it has started."""
+    """Starts a home. Returns None if it has to end before it has started."""
     beginning = asyncio.ensure_future(Home.start(file, simulate=simulate))
     ended = asyncio.ensure_future(ending.wait())
     await asyncio.wait({beginning, ended}, return_when=asyncio.FIRST_COMPLETED)
@@ -123,7 +124,7 @@ async def run(file: HomeFile, simulate: bool) -> None:
     """Runs a home until SIGTERM, SIGINT or SIGHUP ends it. A closed terminal sends SIGHUP."""
     ending = asyncio.Event()
     ends = [signal.SIGTERM, signal.SIGINT]
-    if signal.getsignal(signal.SIGHUP) != signal.SIG_IGN:  # It is below nohup.
+    if signal.getsignal(signal.SIGHUP) != signal.SIG_IGN:  # Under nohup it is ignored.
         ends.append(signal.SIGHUP)
     for each in ends:
         asyncio.get_running_loop().add_signal_handler(each, ending.set)
@@ -148,7 +149,7 @@ async def run(file: HomeFile, simulate: bool) -> None:
         if not simulate and home.requests.open:
             LOG.warning("a device is at work, and has %g seconds to come to its end", PATIENCE)
         if not simulate and not await home.requests.settle(PATIENCE):
-            LOG.warning("a device is still at work; the next start finds out what came of it")
+            LOG.warning("a device is still at work; the next start finds out the result")
             logging.shutdown()
             os._exit(DONE)
     finally:

@@ -1,4 +1,4 @@
-"""The file of a home: which document, how each service is reached, and what else it needs."""
+"""The file of a home: its document, its devices, and its other settings."""
 
 from __future__ import annotations
 
@@ -38,18 +38,18 @@ from .tables import (
 from .toml_lines import located
 
 LONGEST_HORIZON = 64
-"""The most requests that `advise` looks ahead."""
+"""The maximum number of requests that `advise` looks ahead."""
 
 
 IN_PROCESS = "in process"
 """The program of a home whose session runs within its own process."""
 
 LATE = ("failure", "doubt")
-"""What a device that is late has done: nothing that counts, or perhaps its call."""
+"""The meanings of a late device: it has failed, or its call is in doubt."""
 
 
 class PolicyName(Enum):
-    """Which of the offered services is taken."""
+    """The names of the policies, which choose one of the offered services."""
 
     FIRST = "first"
     LEAST_COST = "least cost"
@@ -59,7 +59,7 @@ class PolicyName(Enum):
 
 @dataclass(frozen=True)
 class Policy:
-    """The policy. `costs` is a file, and `requests` how far `least worst` looks ahead."""
+    """The policy. `costs` is a file, and `requests` the number of requests that `least worst` looks ahead."""
 
     choose: PolicyName = PolicyName.FIRST
     costs: Path | None = None
@@ -68,8 +68,8 @@ class Policy:
 
 @dataclass(frozen=True)
 class Page:
-    """Where the page and the HTTP API are. `token` is what has to be shown to operate them, if there is one, and
-    `watch_token` to watch."""
+    """The address of the page and the HTTP API. `token` allows to operate them, and `watch_token` to watch. If `token`
+    is None, no token is needed."""
 
     host: str = "127.0.0.1"
     port: int = 8080
@@ -80,8 +80,8 @@ class Page:
 
 @dataclass(frozen=True)
 class Tls:
-    """How a connection is encrypted: whose certificates are believed, None for those that this machine believes
-    anyway, and the certificate of this home with its key, where the broker wants one."""
+    """The encryption of a connection: the certificates that are trusted, None for those that this machine trusts, and
+    the certificate of this home with its key, if the broker requires one."""
 
     ca: Path | None = None
     certificate: Path | None = None
@@ -97,7 +97,7 @@ class Tls:
 
 @dataclass(frozen=True)
 class Broker:
-    """The MQTT broker, and what the topics of this home begin with."""
+    """The MQTT broker, and the prefix of the topics of this home."""
 
     host: str = "127.0.0.1"
     port: int = 1883
@@ -110,7 +110,7 @@ class Broker:
 
 @dataclass(frozen=True)
 class MqttReach:
-    """Asked on one topic, answers on another."""
+    """A device that is asked on one topic, and answers on another."""
 
     ask: str
     answer: str
@@ -122,15 +122,15 @@ class MqttReach:
 
 @dataclass(frozen=True)
 class HttpReach:
-    """Asked by POST to a URL, which tells the present state to GET."""
+    """A device that is asked by POST to a URL. GET of this URL returns the present state."""
 
     url: str
 
 
 @dataclass(frozen=True)
 class CommandReach:
-    """Asked by a command: one for each action, or with `lines` one that is kept and reads lines, which have
-    numbers where it is `numbered`."""
+    """A device that is asked by a command: one for each action, or with `lines` one that keeps running and reads lines.
+    If it is `numbered`, the lines have numbers."""
 
     command: tuple[str, ...]
     lines: bool
@@ -140,7 +140,7 @@ class CommandReach:
 
 @dataclass(frozen=True)
 class PythonReach:
-    """A function or a device of a Python module. A `quick` one is called in the thread of the home, and has no
+    """A function or a device of a Python module. If it is `quick`, it is called in the thread of the home, and has no
     deadline."""
 
     module: str
@@ -164,9 +164,8 @@ REACHED: Mapping[type, str] = {
 
 @dataclass(frozen=True)
 class DeviceEntry:
-    """How a service is reached; how many seconds it may take, if the home file says so; whether it may safely be asked
-    twice for one thing; whether a call is in doubt if it is late; and after how many seconds it is asked for its state
-    again and again."""
+    """The device of a service: its reach, and the seconds of its deadline if the home file has one. It may `repeat` a
+    call, and a late call may be in doubt. `poll` is the number of seconds between two questions for its state."""
 
     reach: Reach
     seconds: float | None = None
@@ -178,13 +177,13 @@ class DeviceEntry:
 
     @property
     def reached(self) -> str:
-        """The word for how it is reached."""
+        """The word for its kind of reach."""
         return REACHED[type(self.reach)]
 
 
 @dataclass(frozen=True)
 class Words:
-    """Words for the people who live there: the title of the home, and words for actions and states."""
+    """Words for the inhabitants: the title of the home, and words for actions and states."""
 
     title: str | None = None
     actions: Mapping[str, str] = field(default_factory=dict)
@@ -193,7 +192,7 @@ class Words:
 
 @dataclass(frozen=True)
 class Sensor:
-    """What says the state of the environment: a map without actions, and how many seconds it may take."""
+    """The sensor of the environment: a map without actions, and its deadline in seconds."""
 
     map: Map
     seconds: float
@@ -201,8 +200,8 @@ class Sensor:
 
 @dataclass(frozen=True)
 class HomeFile:
-    """What a home file says. All paths are whole. A reply of the program may take `program_seconds`. If `in_process`,
-    the session runs by libroman, and the program looks only for remedies and advice."""
+    """The content of a home file, with absolute paths. A reply of the program may take `program_seconds`. If
+    `in_process`, the session runs by libroman, and the program only finds remedies and advice."""
 
     path: Path
     document: Path
@@ -220,7 +219,7 @@ class HomeFile:
 
     @classmethod
     def read(cls, path: Union[str, os.PathLike[str]]) -> HomeFile:
-        """Reads a home file. Raises HomeFileError with all that is wrong, a line for each."""
+        """Reads a home file. Raises HomeFileError with a line for each mistake."""
         place = Path(os.path.abspath(path))
         try:
             content = place.read_text(encoding="utf-8")
@@ -237,7 +236,7 @@ class HomeFile:
 
 
 def is_loopback(host: str) -> bool:
-    """Whether only this machine reaches that address."""
+    """Whether only this machine reaches an address."""
     if host == "localhost":
         return True
     try:
@@ -247,7 +246,7 @@ def is_loopback(host: str) -> bool:
 
 
 def _home_file(path: Path, table: Table) -> HomeFile:
-    """The home as the file describes it, with usual values for what is wrong."""
+    """The home that the file describes, with default values in place of wrong ones."""
     folder = path.parent
     usual: Broker | None = Broker()
     usual_program = os.environ.get("ROMAN", "roman")
@@ -271,8 +270,8 @@ def _home_file(path: Path, table: Table) -> HomeFile:
 
 
 def _check_topics(home: HomeFile) -> None:
-    """Raises HomeFileError if a topic is named without a broker, or has two uses: then it can't
-    be told whose question or answer comes on it."""
+    """Raises HomeFileError if a topic is named without a broker, or has two uses, because their messages couldn't be
+    distinguished."""
     own = ("requests", "answers", "environment", "state")
     taken = {} if home.mqtt is None else {f"{home.mqtt.prefix}/{each}": "one of mqtt.prefix" for each in own}
     reaches: dict[str, Reach] = {f"devices.{name}": entry.reach for name, entry in home.devices.items()}
@@ -286,7 +285,7 @@ def _check_topics(home: HomeFile) -> None:
         for key, place in reach.topics().items():
             if place in taken:
                 raise HomeFileError(f"{where}.{key} is {place!r}, and so is {taken[place]}")
-            if isinstance(reach, MqttReach):  # Those of maps are the devices' own: one may have many states.
+            if isinstance(reach, MqttReach):  # Topics of maps belong to the devices, and may be shared.
                 taken[place] = f"{where}.{key}"
 
 
@@ -418,7 +417,7 @@ def _device(devices: Table, name: str, value: Any, folder: Path) -> DeviceEntry:
     limit = table.take("seconds", seconds, None)
     repeat = table.take("repeat", flag, False)
     late = table.take("late", one_of(LATE), LATE[0])
-    # What moves by itself is reported over MQTT; maps have a pause of their own.
+    # Devices over MQTT report their moves; maps have a pause of their own.
     poll = None if kind in ("mqtt", "modbus") or is_map(table) else table.take("poll", seconds, None)
     title, room = table.take("title", text, None), table.take("room", text, None)
     reach = _READERS[kind](table, folder)

@@ -17,14 +17,14 @@ from .config import HomeFile
 from .mqtt_api import Connection
 
 HERE = "{{ 'offline' if value_json.gone is defined else 'online' }}"
-"""Whether the home is there, by its state."""
+"""The template of the home's availability, by its state."""
 
 Entity = dict[str, Any]
 
 
 class Discovery:
-    """The messages of a home at its broker. They are published when a service joins, at each new connection, since the
-    broker may have forgotten them, and when Home Assistant starts."""
+    """The messages of a home at its broker. They are published when a service joins and when Home Assistant starts.
+    They are also published at each new connection, because the broker may have lost them."""
 
     def __init__(
         self, file: HomeFile, document: Document, broker: Connection, prefix: str, changed: Callable[[], None]

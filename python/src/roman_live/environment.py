@@ -22,14 +22,14 @@ class EnvironmentSensor:
         moved: Callable[[str], None],
         said: Callable[[str, bool], None],
     ) -> None:
-        """`moved` is given each state that the sensor says, and `said` what else happens to it, and whether that is
-        well."""
+        """`moved` receives each state that the sensor reports. `said` receives a text on other changes of the sensor,
+        and whether it is in order."""
         self._seconds = sensor.seconds
         self._moved = moved
         self._said = said
         self.reach = make_mapped("environment", sensor.map, self, broker, lambda call: ())
         self.state: str | None = None
-        """The state that it reported last, or None if it isn't there."""
+        """The state that it reported last, None if it isn't available."""
 
     async def ask(self) -> None:
         """Reads the state."""
@@ -42,7 +42,7 @@ class EnvironmentSensor:
                 self._heard(answer)
 
     async def watch(self) -> None:
-        """Asks the sensor again and again, if it reports nothing by itself."""
+        """Polls the sensor, if it reports nothing by itself."""
         if self.reach.poll is not None:
             await poll(self.reach.poll, self._told, lambda: 0, self._heard, self._lost)
 
@@ -63,7 +63,7 @@ class EnvironmentSensor:
         self._moved(answer.state)
 
     def answered(self, service: str) -> None:
-        """No call is made to it."""
+        """Does nothing: a sensor is never called."""
 
     def gone(self, service: str) -> None:
         self.state = None

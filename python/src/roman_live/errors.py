@@ -20,10 +20,10 @@ TEMPORARY_ERRORS = (RomanError, OSError)
 
 
 FILES = 12
-"""The most files that a call of a device opens: a command needs three pipes, and some more at its start."""
+"""The maximum number of files that a call of a device opens. A command needs three pipes, and more at its start."""
 
 NO_FILE = os.open(os.devnull, os.O_RDONLY | os.O_CLOEXEC)
-"""A file that is duplicated to find out whether there are numbers left."""
+"""A file that is duplicated to find out whether file descriptors are left."""
 
 
 class Busy(RomanError):
@@ -35,7 +35,7 @@ class TooManyRequests(RomanError):
 
 
 class UnknownAction(RomanError):
-    """The document has no action with that name."""
+    """The document has no action with this name."""
 
 
 class MovedMeanwhile(RomanError):
@@ -55,7 +55,7 @@ class HomeEnding(RomanError):
 
 
 class NoProgram(RomanError):
-    """The program can't be started, or says nothing."""
+    """The program can't be started, or doesn't reply."""
 
 
 class NoHome(RomanError):
@@ -67,7 +67,7 @@ class NoPage(RomanError):
 
 
 class NoSpace(RomanError):
-    """A file of the home can't be read or written for now, as on a full disk."""
+    """A file of the home can't be read or written now, for example because the disk is full."""
 
 
 class UnknownState(RomanError):
@@ -75,18 +75,18 @@ class UnknownState(RomanError):
 
 
 class NoDevice(RomanError):
-    """The home file doesn't say how a service is reached."""
+    """The home file has no device for a service."""
 
 
 def check_file_limit(error: OSError) -> None:
-    """Raises NoSpace if an error means that the system gives no more files now. That is no failure of a device."""
+    """Raises NoSpace if an error means that the system has no more files now. This isn't a failure of a device."""
     if error.errno in (errno.EMFILE, errno.ENFILE):
         raise NoSpace(system_text(error)) from None
 
 
 def check_files() -> None:
-    """Raises NoSpace if there aren't enough files now to ask a device. Files are given the lowest free numbers, so
-    there are enough if the number so far below the limit is free. If it isn't, it is tried."""
+    """Raises NoSpace if too few files are left to ask a device. A new file has the lowest free number. So if the number
+    that is FILES below the limit is free, enough are left. Otherwise FILES files are opened to find out."""
     lowest = max(0, resource.getrlimit(resource.RLIMIT_NOFILE)[0] - FILES)
     held: list[int] = []
     try:
@@ -104,12 +104,12 @@ def check_files() -> None:
 
 
 def error_text(error: Exception) -> str:
-    """The text of an error, or its kind if it has no text."""
+    """The text of an error, or its type if it has no text."""
     return one_line(str(error)) or type(error).__name__
 
 
 def connection_error(error: ClientConnectorError) -> str:
-    """Why there is no connection, in the words of the system."""
+    """The reason why there is no connection, in the words of the system."""
     if isinstance(error, ClientConnectorCertificateError):
         why = error.certificate_error
         return f"its certificate isn't believed: {getattr(why, 'verify_message', why)}"
@@ -117,7 +117,7 @@ def connection_error(error: ClientConnectorError) -> str:
 
 
 def system_text(error: OSError) -> str:
-    """An error in the words of the system, without what the library adds."""
+    """An error in the words of the system, without additions of the library."""
     if isinstance(error, ssl.SSLError):
         return f"TLS: {(error.reason or str(error)).replace('_', ' ').lower()}"
     return os.strerror(error.errno) if error.errno and error.errno > 0 else str(error)

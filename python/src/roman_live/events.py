@@ -22,28 +22,29 @@ FROM_OUTSIDE = ("late", "wrong")
 """The kinds of events that a device or a stranger can cause at will."""
 
 BURST = 20
-"""How many of these a service may cause at once. After that, one a second is added."""
+"""The number of these events that a service may cause at once. After that, it may cause one a second."""
 
 KEPT = 200
-"""How many events are kept."""
+"""The number of events that are stored."""
 
 LONGEST_NUMBER = 18
-"""The most digits of the number of an event."""
+"""The maximum number of digits of an event's number."""
 
 LONGEST_MARK = 64
-"""The most letters of the mark of an event."""
+"""The maximum length of an event's mark."""
 
 MOST_UNREAD = 16_384
-"""About how many bytes of events a listener is sent at once. It is sent no more before it has read them."""
+"""The approximate number of bytes of events that a listener is sent at once. It has to read them before it is sent
+more."""
 
 BETWEEN_WRITES = 0.05
-"""The fewest seconds between two writes to a listener."""
+"""The minimum number of seconds between two writes to a listener."""
 
 EACH_LISTENER = 0.004
 """The seconds by which each listener delays the next write to another one, so that many don't keep a home busy."""
 
 LONGEST_PAUSE = 4.0
-"""The most seconds between two writes to a listener."""
+"""The maximum number of seconds between two writes to a listener."""
 
 
 def now() -> str:
@@ -54,12 +55,12 @@ def now() -> str:
 
 @lru_cache(1)
 def _second(seconds: int) -> str:
-    """A time without what is below seconds."""
+    """A time without its fraction of a second."""
     return datetime.fromtimestamp(seconds, timezone.utc).replace(tzinfo=None).isoformat()
 
 
 class Event(NamedTuple):
-    """Something that happened: its number, time, kind, a text for people, and further details."""
+    """An event: its number, time, kind, a text for people, and further details."""
 
     number: int
     time: str
@@ -94,7 +95,7 @@ class Message:
 
 
 class Listener:
-    """Someone who is sent all events after one, and the newest state."""
+    """A listener, which is sent all events after a given one, and the newest state."""
 
     def __init__(self, log: EventLog, number: int) -> None:
         self._log = log
@@ -107,7 +108,7 @@ class Listener:
         return self.has_ended or self._number < self._log.last or self._state is not self._log.state
 
     async def heard(self, seconds: float) -> list[Message]:
-        """The next messages. Waits at most that long for the first one, and returns an empty list if none comes."""
+        """Returns the next messages. Waits at most that long for the first one. The list is empty if none comes."""
         try:
             async with asyncio.timeout(seconds):
                 while not self._has_news():
@@ -122,8 +123,8 @@ class Listener:
         await asyncio.sleep(max(BETWEEN_WRITES, min(EACH_LISTENER * self._log.listeners, LONGEST_PAUSE)))
 
     def take(self) -> list[Message]:
-        """The next messages, and the newest state if no event is left. Of more events than are kept, the oldest are
-        dropped."""
+        """Returns the next messages, and the newest state if no event is left. Events that are no longer stored are
+        left out."""
         messages: list[Message] = []
         room = MOST_UNREAD
         for event in self._log.after(self._number):
@@ -148,7 +149,7 @@ class EventLog:
         self.state: Message | None = None
         """The newest state that listeners are sent."""
         self.news = asyncio.Event()
-        """Wakes whoever waits for it, at each event and state."""
+        """Set at each event and state."""
         self._kept: Deque[Event] = deque(maxlen=KEPT)
         self._messages: dict[int, Message] = {}
         self._listeners: set[Listener] = set()

@@ -37,13 +37,14 @@ from .toml_lines import located
 LOG = logging.getLogger("roman_live")
 
 FIRST_WORD = 10.0
-"""How many seconds the start waits for the states of the devices. A device that takes longer reports it later."""
+"""The number of seconds that the start waits for the states of the devices. Slower devices report later."""
 
 COMPARED = 3
-"""How often a device is asked for its state after the broker was gone: it may reach the broker later than the home."""
+"""The number of times that a device is asked for its state after the broker was gone. It may reconnect later than the
+home."""
 
 NO_FILES_PAUSE = 0.1
-"""After how many seconds a device is asked that couldn't be for want of files."""
+"""The number of seconds after which a device is asked again if no file was left for it."""
 
 ENVIRONMENT = ""
 """The subject of a move of the environment. No service has this name."""
@@ -56,7 +57,7 @@ class HomeDevice(aio.Device):
     """A service as the dispatcher sees it."""
 
     def __init__(self, fleet: Fleet, reach: Reach, entry: DeviceEntry | None) -> None:
-        """A simulated device has no entry, and no deadline; nor has a quick one."""
+        """A simulated device has neither an entry nor a deadline. A quick device has no deadline."""
         self.reach = reach
         self.poll = reach.poll if entry is None or entry.poll is None else entry.poll
         self.timeout = None if entry is None or reach.is_quick else entry.seconds or reach.timeout or DEADLINE
@@ -85,8 +86,8 @@ class HomeDevice(aio.Device):
 
 @dataclass(frozen=True)
 class EarlierRuns:
-    """What earlier runs with the store left: the number that calls count from, the last call of each service, and the
-    locks of their commands."""
+    """The data that earlier runs with the store left: the number from which calls are counted, the last call of each
+    service, and the locks of their commands."""
 
     first: int
     last: dict[str, int]
@@ -131,8 +132,8 @@ class Fleet:
         *,
         simulate: bool,
     ) -> None:
-        """Makes a device for each service of the home file, and gives it to the dispatcher. `changed` is called when
-        what is shown of a service has changed. With `simulate` a person plays all services of the document. Raises
+        """Makes a device for each service of the home file, and adds it to the dispatcher. `changed` is called when the
+        displayed state of a service has changed. With `simulate` a person plays all services of the document. Raises
         HomeFileError."""
         self.document = document
         self.registry = registry
@@ -249,8 +250,8 @@ class Fleet:
         await self._earlier.processes.end(self.number(call), seconds)
 
     def outcome(self, call: Call, answer: Answer) -> Outcome:
-        """The outcome that an answer means. If it doesn't say the environment, that is as it was; or as it must be, if
-        it can't stay. Raises DeviceFailed if that leaves a choice."""
+        """The outcome that an answer means. If the answer lacks the environment, this is the state of its sensor, or
+        the present state if it may stay, or the only possible one. Raises DeviceFailed if several remain."""
         if answer.environment is not None:
             return answer.state, answer.environment
         possible = self.document.environment.after(self.registry.environment, call.action)
@@ -259,7 +260,7 @@ class Fleet:
         if self.registry.environment in possible:
             return answer.state, self.registry.environment
         if len(possible) != 1:
-            raise DeviceFailed(f"didn't say the environment, which may be {' or '.join(possible)}")
+            raise DeviceFailed(f"didn't report the environment, which may be {' or '.join(possible)}")
         return answer.state, possible[0]
 
     def outcomes(self, call: Call) -> set[Outcome]:
@@ -280,7 +281,7 @@ class Fleet:
             await self._dispatcher.change(protocol.freeze(service), source)
 
     async def thaw(self, service: str, source: str | None = None) -> None:
-        """Takes a service into use again, in the state that its device reports, if any."""
+        """Takes a service back into use, in the state that its device reports, if it reports one."""
         answer = None
         if service in self.registry and self.registry[service].frozen:
             with contextlib.suppress(Exception):
@@ -295,12 +296,12 @@ class Fleet:
             state, environment = answer.state, answer.environment
             self._check_place(service, answer)
         if environment is not None and environment != self.registry.environment:
-            with contextlib.suppress(StoreFailed):  # It is written with what follows, or that says why not.
+            with contextlib.suppress(StoreFailed):  # `thaw` writes it too, or raises the error.
                 await self.jump_environment(environment, source)
         await self._dispatcher.thaw(service, state, source)
 
     def _turn(self, service: str) -> asyncio.Lock:
-        """The lock of a service. An unknown one has none, and is refused by the program."""
+        """The lock of a service. An unknown service gets a new one, and the program refuses it."""
         if service not in self.registry:
             return asyncio.Lock()
         return self._turns.setdefault(service, asyncio.Lock())
@@ -401,11 +402,12 @@ class Fleet:
             self.moves.add(service, protocol.jump(service, answer.state))
 
     def _post(self, event: Event[Any]) -> asyncio.Future[Any]:
-        """Makes a change in its turn."""
+        """Makes a change when it has its turn."""
         return self._dispatcher.post(event, Frozen.GONE, BY_ITSELF)
 
     async def _come_back(self, service: str, answer: Answer) -> None:
-        """Takes a frozen service back that reported its state. Later reports are made after that."""
+        """Takes a frozen service back into use after it has reported its state. Later reports are handled after
+        that."""
         try:
             await self.back(service, answer, is_newest=True)
             await asyncio.sleep(PAUSE)
@@ -434,12 +436,12 @@ class Fleet:
         return await device.reach.present(device.timeout)
 
     async def compare(self, service: str, times: int = 1) -> None:
-        """Asks a device for its state, since it may have moved unnoticed."""
+        """Asks a device for its state, because it may have moved unnoticed."""
         for _ in range(times):
             if await self._look(service):
                 return
         if self.devices[service].reach.by_broker and self.broker is not None and not self.broker.connected:
-            return  # That has been said.
+            return  # This was reported.
         self._report_silence(service)
 
     def _report_silence(self, service: str) -> None:
@@ -447,13 +449,13 @@ class Fleet:
         self._events.add("silent", text, level=logging.WARNING, service=service)
 
     def _calls(self, service: str) -> int | None:
-        """The number of calls of a service in this run, or None if it isn't to be asked for its state now."""
+        """The number of calls of a service in this run, or None if it can't be asked for its state now."""
         known = self.registry.get(service)
         return None if known is None or known.dead or service == self._activity.chosen else known.calls
 
     async def _look(self, service: str) -> bool:
-        """Asks a device once for its state. What it says counts for nothing if it is given a call meanwhile, whose
-        answer is newer. False if it doesn't tell."""
+        """Asks a device once for its state. The answer is ignored if a call of the device begins meanwhile. Returns
+        False if the device doesn't answer."""
         known, calls = self.registry[service], self._calls(service)
         if known.frozen or calls is None:
             return True
@@ -468,7 +470,7 @@ class Fleet:
         return True
 
     async def _poll(self, service: str, seconds: float) -> None:
-        """Asks a device for its state again and again, so that moves by hand are noticed."""
+        """Polls a device for its state, so that moves by hand are noticed."""
         told, calls = partial(self.told, service), partial(self._calls, service)
         await poll(seconds, told, calls, partial(self._heard, service), partial(self._lost, service))
 
@@ -491,8 +493,8 @@ class Fleet:
             self._report_silence(service)
 
     async def back(self, service: str, answer: Answer, is_newest: bool = False) -> bool:
-        """A service that was frozen is back: it is thawed, unless that was done meanwhile, or it was frozen by hand.
-        False if that can't be. An answer that `is_newest` counts also if the service was thawed meanwhile."""
+        """Thaws a frozen service that is back, unless it was thawed meanwhile or frozen by hand. Returns False if this
+        fails. An answer that `is_newest` is used even if the service was thawed meanwhile."""
         try:
             async with self._turn(service):
                 if is_newest and not self.registry[service].frozen:

@@ -1,4 +1,4 @@
-"""The connections of the page: how many there may be, and for how long they may be silent."""
+"""Limits the number of connections to the page, and the time for which they may be silent."""
 
 from __future__ import annotations
 
@@ -11,13 +11,13 @@ from .limits import Limits
 LOG = logging.getLogger("roman_live.http_api")
 
 LONGEST_HEAD = 524_288
-"""The most bytes that are read from a connection for one request: more than those of a body, since the system hands
-over up to 262,144 at once."""
+"""The maximum number of bytes that are read from a connection for one request. It is more than that of a body, because
+the system passes up to 262,144 bytes at once."""
 
 
 class Gate:
-    """Makes the connections of a server. If there are too many, a new one takes the place of the one that is silent
-    for longest, first of those that have never made a request. One whose request is being served keeps its place."""
+    """Makes the connections of a server. If there are too many, a new connection replaces the one that has been silent
+    longest, preferably one that has never made a request. A connection whose request is being served stays open."""
 
     def __init__(self, make: Callable[[], asyncio.Protocol], limits: Limits) -> None:
         """`make` makes the protocol that serves a connection."""
@@ -32,7 +32,7 @@ class Gate:
         return Connection(self, self._make())
 
     def begun(self, protocol: asyncio.BaseProtocol) -> None:
-        """A whole request has come, and is being served."""
+        """A complete request has come, and is being served."""
         connection = self._open.get(protocol)
         if connection is not None:
             self._forget(connection)
@@ -47,7 +47,7 @@ class Gate:
             self._expect(connection, self._silent)
 
     def enter(self, connection: Connection) -> bool:
-        """Registers a new connection. False if requests occupy all places."""
+        """Registers a new connection. Returns False if all connections have a request."""
         if len(self._open) >= self.limits.connections:
             oldest = next(iter(self._new or self._silent), None)
             if oldest is None:
@@ -70,14 +70,14 @@ class Gate:
         self._silent.pop(connection, None)
 
     def _expect(self, connection: Connection, waiting: dict[Connection, float]) -> None:
-        """Expects a whole request of a connection in time."""
+        """Sets the time by which a connection has to send a complete request."""
         loop = asyncio.get_running_loop()
         waiting[connection] = loop.time() + self.limits.silence
         if self._timer is None:
             self._timer = loop.call_at(waiting[connection], self._end_silent)
 
     def _end_silent(self) -> None:
-        """Closes the connections whose time is over. The next one that may be too late sets the timer again."""
+        """Closes the connections whose time is over, and sets the timer to the next such time."""
         self._timer = None
         loop = asyncio.get_running_loop()
         for waiting in (self._new, self._silent):
@@ -92,12 +92,12 @@ class Gate:
 
 
 class Connection(asyncio.Protocol):
-    """A connection. It passes everything to the protocol `inner`, and ends if it is silent for too long."""
+    """A connection. It passes everything to the protocol `inner`. The gate closes it if it is silent for too long."""
 
     def __init__(self, gate: Gate, inner: asyncio.Protocol) -> None:
         self.inner = inner
         self.read = 0
-        """How many bytes of its present request were read."""
+        """The number of bytes that were read of its present request."""
         self._gate = gate
         self._transport: asyncio.Transport | None = None
 

@@ -17,7 +17,7 @@ from .config import HomeFile, HomeFileError
 from .limits import LONGEST_LINE, one_line
 
 LONGEST_PAGE = 100
-"""The most entries on a page."""
+"""The maximum number of entries on a page."""
 
 LAST = 2**63 - 1
 """The greatest number of a call or a change."""
@@ -35,7 +35,8 @@ WHERE time >= :since AND (:service IS NULL OR instr(' ' || words || ' ', ' ' || 
 
 
 def entries(file: HomeFile, service: str | None, since: float) -> Iterator[dict[str, Any]]:
-    """The calls and changes of a home, the oldest first. The home may run. Raises HomeFileError if it has no store."""
+    """The calls and changes of a home, the oldest first. The home may be running. Raises HomeFileError if it has no
+    store."""
     if file.journal is None:
         raise HomeFileError(f"{file.path}: [journal] is missing, so there is no history")
     if not file.journal.exists():
@@ -49,7 +50,7 @@ def entries(file: HomeFile, service: str | None, since: float) -> Iterator[dict[
 
 def page(store: Path, service: str | None = None, before: str = "", length: int = LONGEST_PAGE) -> dict[str, Any]:
     """A page of the history, the newest entry first, and the mark of the next older page, None if there is none.
-    `before` is the mark of the page to return. Raises ValueError if it is no mark."""
+    `before` is the mark of the page to return. Raises ValueError if it isn't a mark."""
     last = _numbers(before)
     found = _newest(store, service, last, length + 1) if store.exists() else []
     for entry in found[:length]:
@@ -66,7 +67,7 @@ def _numbers(mark: str) -> dict[str, int]:
     match = re.fullmatch("([0-9]{1,19})-([0-9]{1,19})", mark or f"{LAST}-{LAST}")
     numbers = [] if match is None else [int(each) for each in match.groups()]
     if not numbers or max(numbers) > LAST:
-        raise ValueError(f"{mark!r} is no mark of a page")
+        raise ValueError(f"{mark!r} isn't a mark of a page")
     return dict(zip(("call", "change"), numbers))
 
 
@@ -89,7 +90,8 @@ def _newest(store: Path, service: str | None, last: dict[str, int], count: int) 
 
 
 def time_of(text: str) -> float:
-    """The seconds of a time such as `2026-11-30` or `2026-11-30T14:05`, in local time by default. Raises ValueError."""
+    """The seconds since 1970 of a time such as `2026-11-30` or `2026-11-30T14:05`, in local time by default. Raises
+    ValueError."""
     return datetime.fromisoformat(text).timestamp()
 
 

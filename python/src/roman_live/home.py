@@ -51,10 +51,10 @@ from .view import View
 LOG = logging.getLogger("roman_live")
 
 STARTS = 8
-"""How often a start is tried if the program is killed meanwhile."""
+"""The number of times that a start is tried if the program is killed meanwhile."""
 
 REFUSED = (3, 4)
-"""The statuses of the program for a document that it refuses, or that is too large."""
+"""The statuses of the program for a document that it refuses, and for one that is too large."""
 
 Value = TypeVar("Value")
 
@@ -204,7 +204,7 @@ class Home:
 
     @classmethod
     async def start(cls, file: HomeFile, *, simulate: bool = False) -> Home:
-        """Starts the program, locks the store, connects to the devices, and goes on from the store. With `simulate` a
+        """Starts the program, locks the store, connects to the devices, and continues from the store. With `simulate` a
         person plays all devices, and nothing is stored. Raises HomeFileError, or the errors of the client."""
         for _ in range(STARTS - 1):
             try:
@@ -238,8 +238,8 @@ class Home:
 
     @classmethod
     async def check(cls, file: HomeFile, *, simulate: bool = False) -> None:
-        """Raises what `start` would raise, as far as that is known without asking a broker or a device. It may be
-        called while the home runs."""
+        """Raises the errors of `start` that are known without asking a broker or a device. It may be called while the
+        home runs."""
         opened = await OpenedSystem.open(file)
         try:
             with tempfile.TemporaryDirectory(prefix="roman-live-") as folder:
@@ -265,7 +265,7 @@ class Home:
             await opened.close()
 
     async def _begin(self) -> None:
-        """Opens the devices, goes on from the store, and asks the devices for their states."""
+        """Opens the devices, continues from the store, and asks the devices for their states."""
         await self.fleet.open()
         call = None if self._store.stored is None else self._store.stored.under_way
         if call is not None:
@@ -298,15 +298,15 @@ class Home:
         await self._opened.close()
 
     async def reply(self, reply: Awaitable[Value]) -> Value:
-        """A reply of the program. If none comes the program was ended, and that is an event: the next one who needs
-        it starts it again, and only sees that it has ended."""
+        """Waits for a reply of the program. If none comes, the client has ended the program. This adds an event,
+        because the next caller only finds that the program has ended, and restarts it."""
         try:
             return await reply
         except NoReply as error:
             self.events.add("hung", f"the program was ended: {error}")
             raise
 
-    # What the dispatcher tells.
+    # Notices of the dispatcher.
 
     def _watch(self, notice: Notice) -> None:
         if isinstance(notice, Asked):
@@ -374,7 +374,7 @@ class Home:
             self.fleet.retries.start(failure.service)
 
     def _changed(self, words: tuple[str, ...]) -> None:
-        """Takes note of a change, by hand or by itself."""
+        """Handles a change that was made by hand or by a device."""
         self.registry.changed(words)
         word, service, *_ = words
         if word == "jumpenv":
@@ -391,7 +391,7 @@ class Home:
         if recovery.done is not None:
             self.registry.served(recovery.done)
         if verdict is Verdict.IN_DOUBT:
-            self.registry[call.service].last_error = "it isn't known whether it did what it was asked"
+            self.registry[call.service].last_error = "it isn't known whether it carried out its last call"
             self.registry[call.service].frozen = True
         text = f"{call.service} was under way at {call.request}: {verdict.value}"
         self.events.add("recovered", text, service=call.service, action=call.request, verdict=verdict.value)
@@ -404,8 +404,8 @@ class Home:
 
 
 def _open_store(file: HomeFile, opened: OpenedSystem, simulate: bool) -> Store:
-    """Opens the store, and locks it. Without one in the home file it is for this run alone: the program may end before
-    the home does, and goes on from it. Raises HomeFileError."""
+    """Opens and locks the store. If the home file names none, a temporary one is used, from which the home continues if
+    the program ends. Raises HomeFileError."""
     path = file.journal
     if path is None or simulate:
         path = Path(opened.folder.name) / "store"

@@ -45,7 +45,7 @@ from .states import explanation_to_json, failures_to_json
 from .whole_response import WholeResponse
 
 LONGEST_WAIT = 86_400
-"""The most seconds that a request waits for its turn."""
+"""The maximum number of seconds that a request waits for its turn."""
 
 NO_EXPIRY = f"expires has to be a number of seconds, at most {LONGEST_WAIT}"
 
@@ -56,12 +56,12 @@ PAGE, LOGIN = (Path(__file__).resolve().parent / "page" / name for name in ("ind
 EVENT_STREAM = {"Content-Type": "text/event-stream", "Cache-Control": "no-store"}
 
 HEARTBEAT = 15.0
-"""The seconds without a message after which a listener is sent a comment, so that a lost connection is noticed."""
+"""The number of seconds without a message after which a listener is sent a comment. So a lost connection is noticed."""
 
 JSON_HEADERS = {"Content-Type": "application/json; charset=utf-8", "Cache-Control": "no-store"}
 
 HOSTS = 64
-"""How many names of this machine are remembered that clients have called."""
+"""The number of names of this machine that are remembered after clients have used them."""
 
 Handler = Callable[[web.BaseRequest], Awaitable[web.StreamResponse]]
 
@@ -135,9 +135,9 @@ class Server:
     # Access.
 
     async def _serve(self, request: web.BaseRequest) -> web.StreamResponse:
-        """Serves a request. Its connection keeps its place meanwhile."""
+        """Serves a request. Its connection stays open meanwhile."""
         assert self._gate is not None
-        if request.method != "POST":  # The body of others follows.
+        if request.method != "POST":  # The body of a POST may still come.
             self._gate.begun(request.protocol)
         try:
             return await self._answered(request)
@@ -145,8 +145,8 @@ class Server:
             self._gate.ended(request.protocol)
 
     async def _answered(self, request: web.BaseRequest) -> web.StreamResponse:
-        """The answer of a handler, or of what refuses the request. Requests with a valid token are allowed, and those
-        from the page itself."""
+        """The response of a handler, or a refusal. Requests with a valid token are allowed, and those from the page
+        itself."""
         try:
             self._check_host(request)
             entered = None if request.path == "/login" else self._enter(request)
@@ -170,21 +170,21 @@ class Server:
         return response
 
     def _refused(self, request: web.BaseRequest, error: web.HTTPException) -> web.Response:
-        """What refuses a request: to people who have shown no token, the page for it."""
+        """The refusal of a request. Browsers without a token get the page on which it is entered."""
         why = error.text or error.reason
         if error.status in (HTTPStatus.UNAUTHORIZED, HTTPStatus.TOO_MANY_REQUESTS) and _is_for_people(request):
             return _login("" if request.method == "GET" and "token" not in request.query else f"{why}.", error.status)
         return _json({"error": why}, error.status)
 
     def _check_host(self, request: web.BaseRequest) -> None:
-        """Without a token only names of this machine are taken, so that no other page can use one of its
-        own that leads here."""
+        """Raises HTTPForbidden if the page has no token and the Host header doesn't name this machine: another page
+        could use a name of its own that leads here."""
         if self._access.is_open and not _is_own(request.headers.get("Host", ""), self.page.host):
             raise web.HTTPForbidden(text="another name than that of this machine was called")
 
     def _enter(self, request: web.BaseRequest) -> web.Response | None:
-        """Checks the token, and the role that it gives. One who shows it in the address of the page is let in, and has
-        it in a cookie from then on."""
+        """Checks the token and its role. Raises HTTPException. A token in the address of the page is stored in a
+        cookie, and the response leads to the page."""
         if self._access.is_open:
             return None
         kind, _, shown = request.headers.get("Authorization", "").partition(" ")
@@ -197,14 +197,15 @@ class Server:
             if request.method not in ("GET", "HEAD") and role is not Role.OPERATE:
                 raise web.HTTPForbidden(text="this token may only watch")
             request["role"] = role
-            # A page in a frame of another one isn't sent the cookie: it shows the token with each request.
+            # Browsers don't send the cookie to a page in a frame of another page, which sends the token itself.
             if token == query and request.path == "/" and not self.page.frame_ancestors:
                 return _let_in(token)
             return None
         raise web.HTTPUnauthorized(text="the token is missing, or another one")
 
     def _check_origin(self, request: web.BaseRequest) -> None:
-        """Raises HTTPForbidden for what another page sends, or loads; it may lead to this home's page."""
+        """Raises HTTPForbidden if another page sends a request or loads a part of this one. It may link to this
+        page."""
         origin = request.headers.get("Origin")
         site = request.headers.get("Sec-Fetch-Site", "none")
         if request.method in ("GET", "HEAD"):
@@ -266,7 +267,7 @@ class Server:
         try:
             await response.prepare(request)
             await self._send_events(request, response, listener)
-        except TimeoutError:  # It doesn't read.
+        except TimeoutError:  # The listener doesn't read.
             if request.transport is not None:
                 request.transport.abort()
         except TEMPORARY_ERRORS:
@@ -292,7 +293,7 @@ class Server:
     # Changing.
 
     async def _post_login(self, request: web.BaseRequest) -> web.Response:
-        """Takes the token of the page for it, and leads to the home's page."""
+        """Checks the token that was entered, and leads to the home's page."""
         data = await self._read(request)
         token = parse_qs(data.decode(errors="replace")).get("token", [""])[0].strip()
         if not self._access.is_open and self._access.role(token, request.remote or "") is None:
@@ -357,19 +358,19 @@ class Server:
         return await self._state()
 
     async def _body(self, request: web.BaseRequest) -> Mapping[str, Any]:
-        """The object in a body; an empty one if there is no body."""
-        # The library's own `content_type` takes longer than all else here.
+        """The object in a body, which is empty if there is no body."""
+        # The library's own `content_type` takes longer than the rest of this.
         kind = request.headers.get("Content-Type", "").partition(";")[0].strip().lower()
         return _object(await self._read(request), kind)
 
     async def _read(self, request: web.BaseRequest) -> bytes:
-        """The body of a request. Its connection keeps its place from then on."""
+        """Reads the body of a request. Its connection stays open from then on."""
         if (request.content_length or 0) > LONGEST_BODY:
             raise web.HTTPRequestEntityTooLarge(LONGEST_BODY, request.content_length or 0)
         if request.headers.get("Expect", "").lower() == "100-continue":
             await request.writer.write(b"HTTP/1.1 100 Continue\r\n\r\n")
         data = await request.read()
-        if len(data) > LONGEST_BODY:  # One without a length.
+        if len(data) > LONGEST_BODY:  # The request stated no length.
             raise web.HTTPRequestEntityTooLarge(LONGEST_BODY, len(data))
         assert self._gate is not None
         self._gate.begun(request.protocol)
@@ -397,12 +398,12 @@ class Server:
 
 
 def _unread(request: web.BaseRequest) -> int:
-    """How many bytes wait to be sent on the connection of a request."""
+    """The number of bytes that wait to be sent on the connection of a request."""
     return 0 if request.transport is None else request.transport.get_write_buffer_size()
 
 
 def expiry(value: Any) -> float | None:
-    """How many seconds a request waits at most. None if the value is no such number."""
+    """The maximum number of seconds that a request waits, None if the value isn't valid."""
     if value is None:
         return PATIENCE
     known = isinstance(value, (int, float)) and not isinstance(value, bool) and 0 <= value <= LONGEST_WAIT
@@ -462,22 +463,22 @@ async def _result(home: Home, serving: Coroutine[Any, Any, dict[str, Any]]) -> t
 
 
 def _let_in(token: str) -> web.Response:
-    """Leads to the page, with the token in a cookie."""
+    """A response that leads to the page, with the token in a cookie."""
     response = web.Response(status=HTTPStatus.SEE_OTHER, headers={"Location": "/"})
     response.set_cookie(COOKIE, token, httponly=True, samesite="Strict", path="/")
     return response
 
 
 def _login(why: str, status: int) -> web.Response:
-    """The page on which the token is entered, with why it is shown."""
+    """The page on which the token is entered, with the reason why it is shown."""
     text = LOGIN.read_text(encoding="utf-8").replace('role="alert">', f'role="alert">{html.escape(why)}')
-    # Without a referrer a browser doesn't say that the form is this page's.
+    # Without a referrer, a browser doesn't state that the form belongs to this page.
     headers = {"Content-Security-Policy": _policy_of(text, forms="'self'"), "Referrer-Policy": "same-origin"}
     return web.Response(text=text, status=status, content_type="text/html", headers=headers)
 
 
 def _is_for_people(request: web.BaseRequest) -> bool:
-    """Whether a browser shows the answer as a page."""
+    """Whether a browser shows the response as a page."""
     return request.path in ("/", "/login") and "text/html" in request.headers.get("Accept", "")
 
 
@@ -496,7 +497,7 @@ def _is_own(called: str, own: str) -> bool:
 
 
 def _object(data: bytes, kind: str) -> Mapping[str, Any]:
-    """The object of JSON that these bytes are. Raises HTTPException."""
+    """Reads these bytes as an object of JSON. Raises HTTPException."""
     if not data:
         return {}
     if kind != "application/json":
@@ -504,9 +505,9 @@ def _object(data: bytes, kind: str) -> Mapping[str, Any]:
     try:
         value = json.loads(data)
     except (ValueError, RecursionError):
-        raise web.HTTPBadRequest(text="the body is no JSON") from None
+        raise web.HTTPBadRequest(text="the body isn't JSON") from None
     if not isinstance(value, dict):
-        raise web.HTTPBadRequest(text="the body is no object")
+        raise web.HTTPBadRequest(text="the body isn't an object")
     return value
 
 
@@ -531,7 +532,7 @@ def _flag(body: Mapping[str, Any], name: str, otherwise: bool) -> bool:
 
 
 def _policy_of(page: str, frames: tuple[str, ...] = (), forms: str = "'none'") -> str:
-    """The policy for a page that has nothing but what stands in it, and whose forms lead there."""
+    """The content security policy of a page that loads no other files, and whose forms lead to `forms`."""
 
     def hashes(element: str) -> str:
         found = re.findall(rf"<{element}>(.*?)</{element}>", page, re.DOTALL)

@@ -10,12 +10,12 @@ from .limits import Clock
 MINUTE = 60.0
 
 LINES = 600
-"""The most different warnings in a minute."""
+"""The maximum number of different warnings in a minute. Further ones are left out."""
 
 
 class OnceAMinute(logging.Filter):
-    """Lets through the first of equal warnings in a minute. The first one after that minute has the number of those
-    that were left out."""
+    """A filter that passes the first of equal warnings in a minute. The first one after that minute has the number of
+    those that were left out."""
 
     def __init__(self, clock: Clock = time.monotonic) -> None:
         super().__init__()

@@ -51,7 +51,7 @@ class Moves:
             self._make(subject)
 
     def drop(self, subject: str) -> None:
-        """Drops the waiting change of a subject, since a newer state will follow."""
+        """Drops the waiting change of a subject, because a newer state will follow."""
         self._newest.pop(subject, None)
 
     def make_all(self) -> None:

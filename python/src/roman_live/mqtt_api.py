@@ -26,22 +26,22 @@ KEEPALIVE = 15
 """The seconds of silence after which the client pings the broker."""
 
 SHORTEST_PAUSE, LONGEST_PAUSE = 1.0, 30.0
-"""How many seconds pass between two attempts to connect. The pause doubles from one failure to the next."""
+"""The seconds between two attempts to connect. The pause doubles with each failure."""
 
 MOST_WAITING = 1000
-"""How many messages may wait for a connection."""
+"""The maximum number of messages that wait for a connection."""
 
 REFUSED = 128
 """A broker's answer, in place of a level, to a subscription that it refuses."""
 
 AT_ONCE = 50
-"""The most packets that are read in one turn of the loop."""
+"""The maximum number of packets that are read in one turn of the loop."""
 
 GONE = {"gone": True}
 """The state that is published for a home that no longer runs, in the same form as for a device that is gone."""
 
 FIRST_WAIT = 5.0
-"""How many seconds to wait for the broker at the start, for its confirmation of subscriptions, and at the end."""
+"""The number of seconds to wait for the broker at the start, for its confirmation of subscriptions, and at the end."""
 
 Listener = Callable[[bytes, bool], None]
 
@@ -65,7 +65,7 @@ class LateClient(mqtt.Client):  # type: ignore[misc]
 
 
 def new_client(manual_ack: bool = False, **words: Any) -> Any:
-    """A client of paho 1, or one of paho 2 that calls back as paho 1 does. Only `reconnect` connects it. With
+    """Returns a client of paho 1, or one of paho 2 with the callbacks of paho 1. Only `reconnect` connects it. With
     `manual_ack` it acknowledges a message at QoS 1 only by its `ack`."""
     words["reconnect_on_failure"] = False
     versions = getattr(mqtt, "CallbackAPIVersion", None)
@@ -203,12 +203,12 @@ class Connection:
             await asyncio.wait([self._task])
 
     async def _stay_connected(self) -> None:
-        """Connects, and connects again after each loss."""
+        """Connects, and reconnects after each loss."""
         while True:
             self._lost.clear()
             try:
                 await asyncio.to_thread(self._client.reconnect)
-            except Exception as error:  # A host that is no name gives a UnicodeError, for example.
+            except Exception as error:  # A host that isn't a valid name raises a UnicodeError, for example.
                 self._fail(error)
             else:
                 self._watch()
@@ -224,8 +224,8 @@ class Connection:
         loop.add_writer(self._socket, self._write)
 
     def _read(self) -> None:
-        """Reads the packets that have come, at most `AT_ONCE` in one turn. A socket of TLS may have buffered more, of
-        which the loop knows nothing, so a further turn is scheduled."""
+        """Reads the packets that have come, at most `AT_ONCE` in one turn. A further turn is scheduled if there is
+        more: the loop doesn't notice data that a TLS socket has buffered."""
         watched = self._socket
         for _ in range(AT_ONCE):
             self._run(self._client.loop_read)
@@ -244,7 +244,7 @@ class Connection:
         self._run(self._client.loop_write)
 
     def _run(self, step: Callable[[], Any]) -> None:
-        """Lets the client read, write or look at the time. An error, such as one of TLS, ends the connection."""
+        """Makes the client read, write or check the time. An error, such as one of TLS, ends the connection."""
         try:
             step()
         except Exception as error:
@@ -272,13 +272,13 @@ class Connection:
         self._miss(f"{self._unreached()}: {getattr(error, 'strerror', None) or error}")
 
     def _miss(self, why: str) -> None:
-        """Reports why there is no connection, once for each reason."""
+        """Reports the reason why there is no connection, once for each reason."""
         if why != self._why:
             self._why = why
             self._changed(False, why)
 
-    # Callbacks of the client. Those with a socket handle only the socket that the loop watches, since `reconnect` also
-    # calls them in its thread, for the old socket and for the new one.
+    # Callbacks of the client. Those with a socket handle only the socket that the loop watches, because `reconnect`
+    # also calls them in its thread, for the old socket and for the new one.
 
     def _on_socket_close(self, client: Any, data: Any, closed: Any) -> None:
         if closed is self._socket:
@@ -361,7 +361,7 @@ class SessionConnection(Connection):
 
     def _on_message(self, client: Any, data: Any, message: Any) -> None:
         acknowledge = functools.partial(self._acknowledge, message, self.connections)
-        if _is_too_long(message) or message.retain:  # A retained one is out of date.
+        if _is_too_long(message) or message.retain:  # A retained request is out of date.
             acknowledge()
             return
         try:

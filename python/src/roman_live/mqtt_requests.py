@@ -19,7 +19,7 @@ from .requests import CANCELLED, EXPIRED
 from .sources import SOURCE, source_of
 
 AGAIN = 0.05
-"""How many seconds pass between two checks of whether one more request may be open."""
+"""The number of seconds between two checks whether one more request may be open."""
 
 Acknowledge = Callable[[], None]
 
@@ -86,7 +86,7 @@ class MqttRequests:
             self._session.publish(self._session.topic("requests"), mark)
 
     async def _beat(self) -> None:
-        """Notes regularly that the broker is heard."""
+        """Records regularly that the broker is heard."""
         assert self._session is not None and self._keeping is not None
         while True:
             if self._session.connected:

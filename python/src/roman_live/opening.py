@@ -18,6 +18,6 @@ def first_step(explanation: Explanation) -> str:
 
 
 def without_composition(explanation: Explanation, document: str) -> str:
-    """The message that there is no composition: the first step of the explanation, and how to see the rest."""
+    """The message that there is no composition, with the first step of the explanation, and the way to see the rest."""
     rest = f"roman-draw {document} --why --text shows the rest"
     return f"there is no composition from the present states: {first_step(explanation)}; {rest}"

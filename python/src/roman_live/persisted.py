@@ -12,10 +12,10 @@ from roman_client.takeover import Journal, is_database
 from .config import HomeFileError
 
 ANEW = "without it the home begins anew, with the states of the document"
-"""What a person can do about a store that can't be used."""
+"""The advice for a store that can't be used."""
 
 GONE = "with its table back, say on the page that it is gone, and then take the table out"
-"""What a person does about a service that the store has, and that isn't there any more."""
+"""The advice for a service that the store has, and the home file no longer has."""
 
 
 def check_folder(store: Path) -> None:
@@ -25,8 +25,8 @@ def check_folder(store: Path) -> None:
 
 
 def check_store(store: Path, document: Document, devices: Iterable[str]) -> None:
-    """Raises HomeFileError if a store isn't one of this document, or has a service without a device. It may be in
-    use."""
+    """Raises HomeFileError if a store belongs to another document, or has a service without a device. The store may be
+    in use."""
     check_folder(store)
     if not store.exists():
         return

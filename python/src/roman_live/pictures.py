@@ -11,7 +11,7 @@ import sys
 from pathlib import Path
 
 LONGEST_DRAWING = 60.0
-"""After how many seconds a drawing is given up."""
+"""The number of seconds after which a drawing is given up."""
 
 
 class Picture:

@@ -16,14 +16,14 @@ from .config import HomeFileError, Policy, PolicyName
 LOG = logging.getLogger("roman_live")
 
 REMEMBERED = 4096
-"""For how many combinations of states the advice is remembered."""
+"""The maximum number of combinations of states whose advice is remembered."""
 
 Choose = Callable[[Choice], Awaitable[str]]
 
 
 def make_policy(policy: Policy, session: aio.Session, program: str, seconds: float) -> Choose:
-    """The policy of a home, for which the program may take so many seconds. Raises HomeFileError where its costs
-    can't be read, or name what the document hasn't: that would count as free."""
+    """Makes the policy of a home. The program may take so many seconds for its advice. Raises HomeFileError if the
+    costs can't be read, or have an unknown name: a service whose name is misspelt would be free."""
     if policy.choose is PolicyName.ROUND_ROBIN:
         return RoundRobin()
     if policy.choose is PolicyName.FIRST:
@@ -57,7 +57,7 @@ def _at_once(choose: Callable[[Choice], str]) -> Choose:
 
 
 class RoundRobin:
-    """Takes the offered service that was taken least recently for this action."""
+    """Chooses the offered service that was chosen least recently for this action."""
 
     def __init__(self) -> None:
         self._taken: dict[tuple[str, str], int] = {}
@@ -71,8 +71,8 @@ class RoundRobin:
 
 
 class LeastWorst:
-    """Takes the service that `advise` names: with it the next requests cost least at worst. Where there is
-    no advice, the service that costs least now is taken."""
+    """Chooses the service that `advise` names, with which the next requests cost least at worst. If there is no advice,
+    it chooses the service that costs least now."""
 
     def __init__(
         self, policy: Policy, session: aio.Session, program: str, seconds: float, otherwise: LeastCost
@@ -104,7 +104,7 @@ class LeastWorst:
         return self._registry[states]
 
     async def _ask(self, report: Report) -> Mapping[str, str]:
-        """Asks the program, by a document whose starting states are those of the report."""
+        """Asks the program, with a document whose starting states are those of the report."""
         assert self._session.core.document is not None
         with tempfile.TemporaryDirectory(prefix="roman-live-") as folder:
             document = Path(folder) / "system.json"
@@ -145,7 +145,7 @@ def _states(report: Report) -> tuple[str, ...]:
 
 
 def advice_of(lines: list[str]) -> dict[str, str]:
-    """The service for each action, of the lines `for ACTION: SERVICE COST`."""
+    """The service for each action, from the lines `for ACTION: SERVICE COST`."""
     advice = {}
     for line in lines:
         words = line.split()

@@ -16,9 +16,9 @@ async def poll(
     heard: Callable[[Answer], None],
     lost: Callable[[Exception], None],
 ) -> None:
-    """Asks a device for its state by `told`, again and again, with a pause of so many seconds. `calls` returns the
-    number of its calls so far, or None while it isn't to be asked. What comes is dropped if a call was made meanwhile.
-    `lost` receives the first of several errors in a row."""
+    """Repeatedly asks a device for its state by `told`, with a pause of so many seconds. `calls` returns the number of
+    its calls so far, or None while it mustn't be asked. `heard` receives the answer, which is dropped if a call was
+    made meanwhile. `lost` receives the first of several errors in a row."""
     there = True
     while True:
         await asyncio.sleep(seconds)
@@ -29,7 +29,7 @@ async def poll(
         try:
             answer = await told()
         except NoSpace:
-            continue  # It wasn't asked.
+            continue  # The device wasn't asked.
         except Exception as failure:
             error = failure
         if calls() != before:

@@ -1,7 +1,7 @@
-"""Commands that a home started, and that run on when it was killed.
+"""Commands that a home started, and that continue after it was killed.
 
-Each call holds a lock on a byte of one file, which is that of its number. The lock belongs to a file that the command
-inherits, so that it lasts as long as the command does, and the next home sees it.
+Each call holds a lock on one byte of a file. The call's number is the position of the byte. The lock belongs to a file
+that the command inherits, so it lasts as long as the command, and the next home sees it.
 """
 
 from __future__ import annotations
@@ -22,10 +22,10 @@ from .errors import check_file_limit
 LOG = logging.getLogger("roman_live")
 
 LOOK_AGAIN = 0.05
-"""After how many seconds it is checked again whether a command has ended."""
+"""The number of seconds between two checks whether a command has ended."""
 
 FLOCK = "hhqqi"
-"""The C structure of a lock: its kind, what its first byte counts from, that byte, the number of bytes, a process."""
+"""The C structure of a lock: its kind, the origin of its first byte, that byte, the number of bytes, and a process."""
 
 
 class Processes:
@@ -37,7 +37,7 @@ class Processes:
 
     @contextlib.contextmanager
     def at_work(self, number: int) -> Iterator[int]:
-        """Holds the lock of a call, and gives the file that the command inherits."""
+        """Holds the lock of a call. Yields the file that the command inherits."""
         with self.file() as file:
             lock(file, number)
             yield file
@@ -52,16 +52,16 @@ class Processes:
             os.close(file)
 
     def open(self) -> int:
-        """Opens the file for a lasting command. Raises NoSpace if no files are left."""
+        """Opens the file for a command that keeps running. Raises NoSpace if no files are left."""
         try:
-            # Another user who could open it could hold its locks.
+            # Another user who can open the file can hold its locks.
             return os.open(self._path, os.O_RDWR | os.O_CREAT | os.O_CLOEXEC, 0o600)
         except OSError as error:
             check_file_limit(error)
             raise
 
     def is_at_work(self, number: int) -> bool:
-        """Whether the command of a call still runs, or one that it started and that belongs to another user."""
+        """Whether the command of a call still runs, or a process that it started and that belongs to another user."""
         with self.file() as file:
             if not _is_locked(file, number):
                 return False
@@ -69,8 +69,7 @@ class Processes:
         return not holders or any(_leads(each) for each in holders)
 
     async def end(self, number: int, seconds: float) -> None:
-        """Waits for the command of a call, and ends it after that many seconds, as the home that started it would have
-        done."""
+        """Waits for the command of a call, and ends it after that many seconds, as the earlier home would have done."""
         if not self.is_at_work(number):
             return
         LOG.warning("a command of the last run is still at work, and is waited for")
@@ -83,7 +82,7 @@ class Processes:
             await asyncio.sleep(LOOK_AGAIN)
 
     def _kill(self, number: int) -> bool:
-        """Ends the processes of a call. False if none of them may be ended from here."""
+        """Ends the processes of a call. Returns False if this home may end none of them."""
         leaders = [each for each in self._holders(number) if _leads(each)]
         for leader in leaders:
             LOG.warning("a command of the last run missed its deadline, and is ended")
@@ -92,7 +91,7 @@ class Processes:
         return bool(leaders)
 
     def _holders(self, number: int) -> list[int]:
-        """The processes that hold the lock of a call, as far as they can be seen."""
+        """The visible processes that hold the lock of a call."""
         mark = f" {number} {number}\n"
         found = []
         for process in Path("/proc").iterdir():
@@ -108,7 +107,7 @@ class Processes:
                     if any(line.startswith("lock:") and line.endswith(mark) for line in info.splitlines(True)):
                         return True
         except OSError:
-            pass  # It has ended, or is that of another user.
+            pass  # The process has ended, or belongs to another user.
         return False
 
 

@@ -1,4 +1,4 @@
-"""Requests that the broker kept while the home was away: their age, and which of them are served."""
+"""Requests that the broker kept while the home was away: their age, and whether they are served."""
 
 from __future__ import annotations
 
@@ -19,10 +19,11 @@ from .limits import Clock
 LOG = logging.getLogger("roman_live.mqtt_api")
 
 BEAT = 15.0
-"""How many seconds pass between two notes that the home hears the broker."""
+"""The number of seconds between two records that the home hears the broker."""
 
 SLACK = 60.0
-"""How many seconds before the last note a request may have been missed. A lost broker is noticed within that time."""
+"""The number of seconds before the last record in which a request may have been missed. A lost broker is noticed within
+that time."""
 
 AT_ONCE = 1.0
 """The age in seconds below which a request is served, however soon it expires."""
@@ -33,7 +34,7 @@ LONGEST_DRAIN = 60.0
 
 class LastHeard:
     """A file beside the store with the time at which the home last heard the broker, in seconds since 1970. It isn't
-    synced: after the machine has lost its power the time is older, and requests count as older than they are."""
+    synced: after a power failure the time is older, and requests count as older than they are."""
 
     def __init__(self, path: Path, clock: Clock = time.time) -> None:
         self._path = path
@@ -47,7 +48,7 @@ class LastHeard:
             return -math.inf  # The time is unknown.
 
     def note(self) -> None:
-        """Notes that the broker is heard now."""
+        """Records that the broker is heard now."""
         self.time = self._clock()
         try:
             with open(self._path, "r+b" if self._path.exists() else "wb") as file:
@@ -90,7 +91,7 @@ class Keeping:
         return True
 
     def note(self) -> None:
-        """Notes that the broker is heard, after all kept requests have come."""
+        """Records that the broker is heard, after all kept requests have come."""
         if not self.is_draining:
             self._heard.note()
 
@@ -117,7 +118,7 @@ class MqttRequest:
         return (self.first_age or 0.0) + time.monotonic() - self.came
 
     def hindrance(self, expires: float) -> str | None:
-        """Why the request isn't served, if it is out of date."""
+        """The reason why the request isn't served, if it is out of date."""
         if self.kept and self.value.get("key") is None:
             return "it came while the home was away, and has no key"
         if self.age >= max(expires, AT_ONCE):
@@ -134,7 +135,7 @@ def _number(value: Any) -> float | None:
 
 
 def message_of(payload: bytes) -> dict[str, Any]:
-    """The JSON object in a payload. An empty one if there is none."""
+    """The JSON object in a payload, which is empty if there is none."""
     try:
         value = json.loads(payload)
     except (ValueError, RecursionError):

@@ -1,4 +1,4 @@
-"""Recovery: devices that failed are asked for their state again and again, until they are back."""
+"""Recovery: devices that failed are asked for their state repeatedly, until they are back."""
 
 from __future__ import annotations
 
@@ -50,7 +50,7 @@ class Retries:
                 self.start(name, at_once)
 
     def start(self, service: str, at_once: bool = False) -> None:
-        """Asks a service again and again until it is back."""
+        """Asks a service repeatedly until it is back."""
         task = self.tasks.get(service)
         if self._by_hand or task is not None and not task.done():
             return
@@ -61,7 +61,7 @@ class Retries:
         self.tasks[service] = task
 
     def hurry(self, service: str) -> None:
-        """Asks a service at once if its recovery runs: it has just sent something."""
+        """Asks a service at once if its recovery runs, because it has just sent a message."""
         if service in self._wakes:
             self._wakes[service].set()
 
@@ -87,7 +87,7 @@ class Retries:
         await asyncio.gather(*tasks, return_exceptions=True)
 
     async def _return(self, service: str) -> None:
-        """Asks a service with growing pauses, and at once when it has sent something, until it is back."""
+        """Asks a service with growing pauses until it is back, and at once when it has sent a message."""
         known, wake = self._registry[service], self._wakes[service]
         pause: float | None = min(LONGEST_PAUSE, FIRST_PAUSE * 2 ** min(max(known.failures, 1) - 1, 16))
         while True:

@@ -89,5 +89,5 @@ class Registry(dict[str, KnownService]):
             known.dead, known.since = True, now()
 
     def present(self) -> list[str]:
-        """The services that aren't dead."""
+        """The services that weren't removed."""
         return [name for name, known in self.items() if not known.dead]

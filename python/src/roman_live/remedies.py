@@ -1,4 +1,4 @@
-"""What would help if there is no composition."""
+"""Changes that would help if there is no composition."""
 
 from __future__ import annotations
 
@@ -12,12 +12,12 @@ from roman_client.protocol import Program
 LOG = logging.getLogger("roman_live")
 
 SECONDS = 10.0
-"""How long remedies are looked for. Those that were found by then are shown."""
+"""The number of seconds for which remedies are looked for. Those that were found by then are shown."""
 
 
 class Remedies:
-    """The remedies of the newest report, which is remembered. They are tried in a session of their own, so that the
-    home's goes on meanwhile."""
+    """The remedies of the newest report, which are cached. They are tried in a session of their own, so that the home's
+    session continues meanwhile."""
 
     def __init__(self, document: Document, program: Program, seconds: float = SECONDS) -> None:
         self._document = document

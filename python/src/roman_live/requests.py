@@ -25,10 +25,11 @@ from .metrics import Metrics
 from .states import done_to_json
 
 PATIENCE = 300.0
-"""How many seconds a request waits for its turn by default."""
+"""The default number of seconds that a request waits for its turn."""
 
 MOVES = 1
-"""How often a request is made again because something moved by itself. After that, moves wait for the request."""
+"""The number of times that a request is repeated because something moved by itself. After that, moves wait for the
+request."""
 
 EXPIRED, CANCELLED = "expired", "cancelled"
 
@@ -42,7 +43,7 @@ class Waiting:
     given_up: str | None = None
 
     def give_up(self, why: str) -> None:
-        """Ends its waiting, for that reason."""
+        """Ends the wait, for that reason."""
         self.given_up = why
         self.task.cancel()
 
@@ -69,7 +70,7 @@ class Requests:
         dispatcher. `changed` is called when the state that is shown has changed."""
         self.ending = False
         self.open = 0
-        """How many requests are open, including those that wait."""
+        """The number of open requests, including those that wait."""
         self.background = Background()
         self._document = document
         self._dispatcher = dispatcher
@@ -100,7 +101,7 @@ class Requests:
         self._check(action, wait)
         answer: asyncio.Future[dict[str, Any]] = asyncio.get_running_loop().create_future()
         work = self.background.run(self._answer(answer, action, key, expires, source))
-        work.add_done_callback(lambda work: answer.cancel())  # If it was cancelled before it began.
+        work.add_done_callback(lambda work: answer.cancel())  # It may be cancelled before it begins.
         return await answer
 
     async def serve_here(
@@ -117,7 +118,7 @@ class Requests:
         return await self.background.run_here(self._served(action, key, expires, source))
 
     def _check(self, action: str, wait: bool) -> None:
-        """Lets a request in, or raises the reason why it isn't."""
+        """Admits a request, or raises the reason why it can't be served."""
         if action not in self._document.actions:
             raise UnknownAction(f"{action} is no action that may be requested")
         if self.ending:
@@ -193,7 +194,7 @@ class Requests:
         return next((number for each, number in reversed(self._numbers) if each is done), None)
 
     def _is_awaited(self) -> bool:
-        """Whether another request waits, whose call will follow soon."""
+        """Whether another request waits whose call will follow soon."""
         return self._shares and bool(self._waiting) and not self._fleet.moves.is_open
 
     async def _served(self, action: str, key: str | None, expires: float, source: str | None) -> dict[str, Any]:

@@ -8,12 +8,12 @@ from roman_client import DocumentError
 from roman_client.documents import read_json
 
 SHORT = "short"
-"""What stands for the version in the short form."""
+"""The version of a document in the short form."""
 
 
 def is_short(document: Path) -> bool:
-    """Whether a file is a document in the short form. What can't be read is none: the reader of plain ones
-    says what is wrong with it."""
+    """Whether a file is a document in the short form. A file that can't be read isn't; the reader of plain documents
+    reports the mistake."""
     try:
         value = read_json(document)
     except DocumentError:
@@ -22,10 +22,10 @@ def is_short(document: Path) -> bool:
 
 
 def plain_text(document: Path) -> str:
-    """The plain form of a document in the short form. Raises DocumentError with all that is wrong in it,
-    each with its place in what the person wrote."""
+    """The plain form of a document in the short form. Raises DocumentError with all mistakes, at their places in the
+    short form."""
     try:
-        # It needs python3-lark and python3-jsonschema, which a plain document doesn't.
+        # This needs python3-lark and python3-jsonschema, which a plain document doesn't.
         from roman_tools.documents import read
         from roman_tools.findings import in_order
         from roman_tools.reader import Shelf
@@ -43,8 +43,8 @@ def plain_text(document: Path) -> str:
 
 
 def plain_costs(document: Path, costs: Path) -> str:
-    """The costs by the behaviours of the plain form of a document, of a file in which items may name patterns and
-    services. Raises DocumentError with all that is wrong in it."""
+    """The plain form of a file of costs for a document in the short form. Items of the file may name patterns and
+    services. Raises DocumentError with all mistakes in it."""
     from roman_tools.costs import Reader
     from roman_tools.documents import read
     from roman_tools.findings import Level, in_order

@@ -1,4 +1,4 @@
-"""The source of a request, and the reason for a choice, as events name them."""
+"""The source of a request, and the reason for a choice, for events."""
 
 from __future__ import annotations
 
@@ -28,5 +28,5 @@ def source_of(given: object, channel: str) -> str:
 
 
 def reason(choice: Choice, policy: PolicyName) -> str:
-    """Why a service was chosen."""
+    """The reason why a service was chosen."""
     return "no other may" if len(choice.offered) == 1 else REASONS[policy].format(", ".join(choice.offered))

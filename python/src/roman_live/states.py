@@ -27,7 +27,8 @@ def target_to_json(document: Document, report: Report) -> dict[str, Any]:
 
 
 def actions_to_json(document: Document, report: Report) -> list[dict[str, Any]]:
-    """Each action that may be requested, with the services that may serve it, or why it isn't allowed."""
+    """The actions that may be requested, each with the services that may serve it, or the reason why it isn't
+    allowed."""
     allowed = document.allowed(report.target, report.environment)
     actions = []
     for action in document.actions:
@@ -58,7 +59,8 @@ def states_after(document: Document, report: Report, service: Service, action: s
 
 
 def explanation_to_json(explanation: Explanation) -> dict[str, Any]:
-    """Why there is no composition: each entry is lost by those before it, and the last is the present."""
+    """The explanation why there is no composition. Each entry is lost because of earlier entries, and the last entry is
+    the present pair."""
     return {
         "text": str(explanation),
         "entries": [

@@ -14,7 +14,7 @@ from .background import happens
 from .log import OnceAMinute
 
 PRIORITIES = {logging.WARNING: 4, logging.ERROR: 3, logging.CRITICAL: 2}
-"""The priorities of syslog for the levels of messages. Other messages have that of an information, 6."""
+"""The priorities of syslog for the levels of messages. Other messages have the priority of information, 6."""
 
 
 def in_journal() -> bool:
@@ -35,30 +35,30 @@ class Lines(logging.Formatter):
 
 
 def begin_log(level: int) -> None:
-    """Has messages from that level on written to the standard error."""
+    """Writes messages of at least this level to the standard error."""
     handler = logging.StreamHandler(sys.stderr)
     handler.addFilter(OnceAMinute())
     form = "%(name)s: %(message)s"
     handler.setFormatter(Lines(form) if in_journal() else logging.Formatter(form))
     logging.basicConfig(level=level, handlers=[handler])
-    # What the client tells of each request the home tells too.
+    # The home logs all requests itself.
     logging.getLogger("roman_client").setLevel(logging.WARNING)
 
 
 def greet(text: str) -> None:
-    """Writes a line to the standard output. A line that can't be written, as on a full disk, doesn't stop the home."""
+    """Writes a line to the standard output. If this fails, for example because the disk is full, the home continues."""
     try:
         print(text, flush=True)
     except OSError:
-        with open(os.devnull, "wb") as nowhere:  # So that it isn't tried again at the end.
+        with open(os.devnull, "wb") as nowhere:  # Otherwise the line would be written again at the end.
             os.dup2(nowhere.fileno(), sys.stdout.fileno())
 
 
 def complain(error: Exception) -> None:
-    """Writes the reason of the end to the standard error."""
+    """Writes the error that ends the home to the standard error."""
     mark = f"<{PRIORITIES[logging.ERROR]}>" if in_journal() else ""
     text = str(error).replace("\n", f"\n{mark}")
-    with contextlib.suppress(OSError):  # The status says that it failed.
+    with contextlib.suppress(OSError):  # The exit status reports the failure, too.
         print(f"{mark}roman-live: {text}", file=sys.stderr)
 
 

@@ -1,4 +1,4 @@
-"""Tables of a home file, and how their values are read."""
+"""Tables of a home file, and readers of their values."""
 
 from __future__ import annotations
 
@@ -17,11 +17,11 @@ class HomeFileError(Exception):
 
 
 class UnusableValue(HomeFileError):
-    """A value that is needed is wrong, which is collected already."""
+    """A required value is wrong. The error is already collected."""
 
 
 class Table:
-    """A table of the file. What is read of it is taken out, so that what is left is unknown. Wrong values are
+    """A table of the file. Keys are taken out when they are read, so the remaining ones are unknown. Errors are
     collected in `errors`, which all tables of a file share."""
 
     def __init__(self, name: str, value: Any, errors: list[str]) -> None:
@@ -43,7 +43,7 @@ class Table:
         return tuple(self._rest)
 
     def key(self, key: str) -> str:
-        """The whole name of a key."""
+        """The full name of a key."""
         return f"{self.name}.{key}" if self.name else key
 
     def wrong(self, key: str, what: str) -> HomeFileError:
@@ -51,7 +51,8 @@ class Table:
         return HomeFileError(f"{self.key(key)} {what}")
 
     def attempt(self, read: Callable[[], Value], otherwise: Value) -> Value:
-        """What a function reads. If it raises HomeFileError, that is collected, and another value is taken."""
+        """Returns the value that a function reads. If it raises HomeFileError, collects the error, and returns
+        `otherwise`."""
         try:
             return read()
         except UnusableValue:
@@ -61,8 +62,8 @@ class Table:
             return otherwise
 
     def take(self, key: str, read: Callable[[Any], Value], otherwise: Value) -> Value:
-        """The value of a key, or the other one if it is missing or wrong. `read` raises ValueError with what
-        is allowed."""
+        """Returns the value of a key, or `otherwise` if it is missing or wrong. `read` raises ValueError with the
+        allowed values."""
         self._registry[key] = None
         if key not in self._rest:
             return otherwise
@@ -75,7 +76,7 @@ class Table:
             return otherwise
 
     def need(self, key: str, read: Callable[[Any], Value], example: str) -> Value:
-        """The value of a key that has to be there."""
+        """Returns the value of a required key. Raises HomeFileError if it is missing or wrong."""
         is_there = key in self._rest
         value = self.take(key, read, None)
         if value is None and is_there:
@@ -94,7 +95,7 @@ class Table:
         return Table(self.key(key), self._rest.pop(key), self.errors)
 
     def items(self) -> Iterable[tuple[str, Any]]:
-        """All keys that are left."""
+        """Takes all keys that are left, with their values."""
         rest, self._rest = self._rest, {}
         return rest.items()
 
@@ -107,7 +108,7 @@ class Table:
 
 
 def text(value: Any) -> str:
-    """A text that isn't empty. No name of a file has NUL in it."""
+    """A text that isn't empty. It has no NUL, which names of files can't have."""
     if not isinstance(value, str) or not value or "\0" in value:
         raise ValueError("a text")
     return value
@@ -150,7 +151,7 @@ def one_of(words: Sequence[str]) -> Callable[[Any], str]:
 
 
 def words(value: Any) -> tuple[str, ...]:
-    """A list of texts, one at least."""
+    """A list of at least one text."""
     if (
         not isinstance(value, list)
         or not value
@@ -166,7 +167,7 @@ def url(value: Any) -> str:
         place = urlsplit(value if isinstance(value, str) and value.isprintable() and " " not in value else "")
         known = place.scheme in ("http", "https") and bool(place.hostname) and place.port != 0
         (place.hostname or "").encode("idna")
-    except ValueError:  # Its port is no number of a port, a bracket is missing, or a part of its host is too long.
+    except ValueError:  # The port is invalid, a bracket is missing, or a part of the host is too long.
         known = False
     if not known:
         raise ValueError('a URL, as "http://192.168.1.20/blind"')
@@ -174,7 +175,7 @@ def url(value: Any) -> str:
 
 
 def origins(value: Any) -> tuple[str, ...]:
-    """A list of origins, as those of pages."""
+    """A list of origins of pages."""
     found = words(value)
     if not all(re.fullmatch(r"https?://[\w.*:\[\]-]+", each) for each in found):
         raise ValueError('a list of origins, as ["http://homeassistant.local:8123"]')

@@ -15,21 +15,21 @@ class TemplateFailed(Exception):
 
 
 def is_defined(value: Any) -> Any:
-    """The value; a template without one has none either."""
+    """Returns the value. If it isn't defined, the template has no value either."""
     if isinstance(value, ChainableUndefined):
         raise UndefinedError("it isn't defined")
     return value
 
 
 def iif(value: Any, if_true: Any = True, if_false: Any = False, if_none: Any = None) -> Any:
-    """One of two values, as Home Assistant's `iif`."""
+    """Chooses one of two values, as Home Assistant's `iif` does."""
     if value is None and if_none is not None:
         return if_none
     return if_true if value else if_false
 
 
 def number(kind: Callable[[Any], Any]) -> Callable[..., Any]:
-    """The filter `float` or `int`, which has a value that isn't there become the default."""
+    """The filter `float` or `int`, which returns its default for an undefined or invalid value."""
 
     def convert(value: Any, *default: Any) -> Any:
         try:
@@ -54,10 +54,10 @@ ENVIRONMENT = _environment()
 
 
 class Template:
-    """A template that may use only these names."""
+    """A template, which may use only given names."""
 
     def __init__(self, text: str, names: frozenset[str]) -> None:
-        """Raises ValueError for a text that is no template, or that uses other names."""
+        """Raises ValueError for a text that isn't a template, or that uses other names."""
         self.text = text
         try:
             used = meta.find_undeclared_variables(ENVIRONMENT.parse(text))
@@ -72,7 +72,7 @@ class Template:
         """The text for these values, without blanks at its ends. Raises TemplateFailed."""
         try:
             return self._template.render(values).strip()
-        except Exception as error:  # A filter may raise anything for a message that it isn't made for.
+        except Exception as error:  # A filter may raise any exception for an unexpected message.
             raise TemplateFailed(str(error)) from None
 
     def __eq__(self, other: object) -> bool:
@@ -83,14 +83,14 @@ class Template:
 
 
 MESSAGE = frozenset({"value", "value_json"})
-"""What a template of a message may use: its text, and the JSON that it is."""
+"""The names that a template of a message may use: its text, and its JSON."""
 
 COMMAND = frozenset({"action", "id"})
-"""What a template of a command may use: the action, and the number of the call."""
+"""The names that a template of a command may use: the action, and the number of the call."""
 
 
 def message_values(text: str) -> dict[str, Any]:
-    """What a template of this message may use. `value_json` isn't there if the message is no JSON."""
+    """The values that a template of a message may use. `value_json` is undefined if the message isn't JSON."""
     values: dict[str, Any] = {"value": text}
     try:
         values["value_json"] = json.loads(text)
@@ -125,7 +125,7 @@ def rendered(value: Any, values: Mapping[str, Any]) -> Any:
 
 
 def json_template(value: Any) -> Any:
-    """JSON whose texts are templates of a command. Raises ValueError for what is no JSON, as a date of TOML."""
+    """JSON whose texts are templates of a command. Raises ValueError for other values, such as a date of TOML."""
     if isinstance(value, str):
         return command_template(value)
     if isinstance(value, dict):

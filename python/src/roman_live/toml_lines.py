@@ -1,4 +1,4 @@
-"""The lines of keys and tables in TOML texts, which `tomllib` doesn't give."""
+"""The lines of keys and tables in TOML texts, which `tomllib` doesn't report."""
 
 from __future__ import annotations
 
@@ -9,7 +9,7 @@ import tomllib
 
 
 def lines_of(text: str) -> dict[str, int]:
-    """The first line of each key and each table of a text, by their whole names, as `devices.lamp.url`."""
+    """The first line of each key and each table of a text, by full names such as `devices.lamp.url`."""
     lines: dict[str, int] = {}
     table, statement, first = "", "", 1
     for number, line in enumerate(text.split("\n"), 1):
@@ -17,7 +17,7 @@ def lines_of(text: str) -> dict[str, int]:
         try:
             value = tomllib.loads(statement)
         except tomllib.TOMLDecodeError:
-            continue  # It goes on in the next line.
+            continue  # It continues in the next line.
         is_header = statement.lstrip().startswith("[")
         names = list(_names("" if is_header else table, value))
         for name in names:
@@ -29,7 +29,7 @@ def lines_of(text: str) -> dict[str, int]:
 
 
 def _names(table: str, value: Any) -> Iterator[str]:
-    """The whole names of the keys in a table, each before those below it."""
+    """The full names of the keys in a table, each before those below it."""
     for key, inner in value.items() if isinstance(value, dict) else ():
         name = f"{table}.{key}" if table else key
         yield name
@@ -37,8 +37,8 @@ def _names(table: str, value: Any) -> Iterator[str]:
 
 
 def located(text: str, message: str) -> str:
-    """A message with the line that it is about in front. It begins with the name of a key; if the text hasn't that
-    one, the line is that of its table."""
+    """A message with the number of its line in front. The message begins with the name of a key. If the text doesn't
+    have this key, the line is that of its table."""
     lines = lines_of(text)
     about = [name for name in lines if f"{message} ".startswith((f"{name} ", f"{name}."))]
     return f"line {lines[max(about, key=len)]}: {message}" if about else message

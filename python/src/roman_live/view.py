@@ -25,7 +25,7 @@ if TYPE_CHECKING:
 LOG = logging.getLogger("roman_live")
 
 BETWEEN_STATES = 0.05
-"""How many seconds there are at least between two states that listeners are sent."""
+"""The minimum number of seconds between two states that listeners are sent."""
 
 
 class View:
@@ -34,7 +34,7 @@ class View:
     def __init__(self, home: Home) -> None:
         self._home = home
         self.listener: Callable[[str], None] | None = None
-        """Gets the status of the home in one line, whenever it may have changed."""
+        """Receives the status of the home in one line, whenever it may have changed."""
         self._report = home.session.opening
         self._explained: tuple[Report, Explanation | None] | None = None
         self._stuck = False
@@ -86,7 +86,7 @@ class View:
         return self._home.metrics.text()
 
     async def remedies(self) -> dict[str, Any]:
-        """What would help if there is no composition."""
+        """The changes that would help if there is no composition."""
         return await self._remedies.of(await self._present_report())
 
     async def allowed(self) -> list[str]:
@@ -95,7 +95,7 @@ class View:
         return list(report.offers)
 
     async def _present_report(self) -> Report:
-        """The newest report, or the one before while the program is started again."""
+        """The newest report, or an earlier one while the program is restarted."""
         try:
             self._report = await self._home.reply(self._home.session.report())
         except SessionOver:
@@ -108,7 +108,7 @@ class View:
         return self._report
 
     async def _explanation(self, report: Report) -> Explanation | None:
-        """Why there is no composition, where there is none and no request is open."""
+        """The explanation why there is no composition, if there is none and no request is open."""
         if report.composition or self._home.requests.open:
             return None
         if self._explained is None or self._explained[0] != report:
@@ -148,7 +148,7 @@ class View:
         }
 
     def _request_to_json(self, report: Report) -> dict[str, Any] | None:
-        """What is under way; with simulated devices the possible outcomes, too."""
+        """The open request. With simulated devices it has the possible outcomes, too."""
         if self._home.activity.call is None:
             return None
         call, since = self._home.activity.call
@@ -169,7 +169,7 @@ class View:
         return shown
 
     async def opening(self) -> str | None:
-        """Why there is no composition at the start, if there is none."""
+        """The message that there is no composition at the start, if there is none."""
         report = await self._present_report()
         explanation = await self._explanation(report)
         return None if explanation is None else without_composition(explanation, str(self._home.file.document))
@@ -209,14 +209,14 @@ class View:
         return "; ".join(words)
 
     def hear_state(self, payload: bytes, retained: bool) -> None:
-        """Handles the state that the broker retains. If it is that the home is gone, the state is published again. The
+        """Handles the state that the broker retains. If it states that the home is gone, publishes the state again. The
         broker may have noticed a lost connection late, or another start of this home may have failed."""
         with contextlib.suppress(ValueError, RecursionError):
             if json.loads(payload) == GONE:
                 self._home.dirty.set()
 
     async def _summary(self) -> dict[str, Any]:
-        """The state in short, for others on the broker."""
+        """A summary of the state, for other clients of the broker."""
         report = await self._present_report()
         return {
             "target": report.target,

@@ -11,8 +11,8 @@ from aiohttp.abc import AbstractStreamWriter
 
 
 class WholeResponse(web.StreamResponse):
-    """JSON, sent together with its head, where aiohttp sends the head before. It is for HTTP/1.1, and leaves the
-    connection open."""
+    """A response with JSON that is sent together with its head. aiohttp sends the head first. It is for HTTP/1.1, and
+    leaves the connection open."""
 
     def __init__(self, body: bytes) -> None:
         super().__init__()
@@ -21,7 +21,7 @@ class WholeResponse(web.StreamResponse):
 
     @property
     def keep_alive(self) -> bool | None:
-        """The connection stays open."""
+        """True: the connection stays open."""
         return True
 
     async def prepare(self, request: web.BaseRequest) -> AbstractStreamWriter | None:
@@ -35,7 +35,7 @@ class WholeResponse(web.StreamResponse):
 
 @functools.lru_cache(1)
 def _head(second: int) -> bytes:
-    """The head of a response in that second, up to the length of the body."""
+    """The head of a response in a given second, up to the length of the body."""
     lines = (
         "HTTP/1.1 200 OK",
         "Content-Type: application/json; charset=utf-8",

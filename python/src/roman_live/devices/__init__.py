@@ -1,4 +1,4 @@
-"""How services are reached."""
+"""Devices of all kinds, by which services are reached."""
 
 from __future__ import annotations
 

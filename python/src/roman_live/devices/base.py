@@ -12,19 +12,19 @@ from roman_client import Call, DeviceFailed, DeviceTimeout
 from ..limits import one_line
 
 DEADLINE = 10.0
-"""How many seconds a device may take, unless the home file or the device gives another number."""
+"""The default number of seconds that a device may take."""
 
 LONGEST_ANSWER = 65_536
-"""The most bytes that a device may answer."""
+"""The maximum length of an answer of a device, in bytes."""
 
 STATE_WORD = "?"
-"""What a command is told in place of an action, to tell its present state."""
+"""The word in place of an action that asks a command for its present state."""
 
 
 @dataclass(frozen=True)
 class Answer:
-    """The answer of a device: its state, and that of the environment if it knows it. `done` is set
-    if the device was asked about a call, and knows whether it did it."""
+    """The answer of a device: its state, and that of the environment if it knows it. `done` is set if the device was
+    asked about a call, and knows whether it carried out the call."""
 
     state: str
     environment: str | None = None
@@ -38,7 +38,7 @@ class Listener(Protocol):
         """A device reported its state."""
 
     def answered(self, service: str) -> None:
-        """The answer to what is under way has come; what the device says next is newer."""
+        """The answer to the present call has come. Later reports of the device are newer."""
 
     def gone(self, service: str) -> None:
         """A device is gone, until it reports again."""
@@ -48,10 +48,10 @@ class Listener(Protocol):
 
 
 class Reach:
-    """How a service is reached. `by_broker` says that what it says unasked is lost while the broker is gone. A device
+    """The way to the device of a service. If it is `by_broker`, its reports are lost while the broker is gone. A device
     that reports nothing by itself is asked for its state each `poll` seconds. If it doesn't answer then, it counts as
-    gone if `gone_if_silent`. A device that brings its own deadline, or may be repeated, or is doubtful if it is late,
-    says so as `roman_client.Device` does. One that `is_quick` has no deadline."""
+    gone if `gone_if_silent`. The other attributes are those of `roman_client.Device`, for devices that have them. A
+    device that `is_quick` has no deadline."""
 
     reached = ""
     by_broker = False
@@ -67,7 +67,7 @@ class Reach:
         self.listener = listener
 
     def hindrance(self) -> str | None:
-        """Why what it is reached by can't be asked, as far as that is known without asking it."""
+        """The reason why the device can't be called, as far as this is known without calling it."""
         return None
 
     async def open(self) -> None:
@@ -77,17 +77,17 @@ class Reach:
         """Releases all resources."""
 
     async def ask(self, number: int, call: Call) -> Answer:
-        """Has the action of a call carried out. Raises an exception if the device can't, and NoSpace if it wasn't asked
-        for want of files. It may be cancelled at any time; then what is answered later is taken for nothing."""
+        """Asks the device to carry out a call. Raises an exception if it can't, and NoSpace if the system had no file
+        to ask it. This may be cancelled at any time. A later answer is then ignored."""
         raise NotImplementedError
 
     async def tell(self, number: int | None, call: Call | None = None) -> Answer | None:
-        """The present state of the device, and whether that call was done, which had that number; None if it can't
-        tell."""
+        """Returns the present state of the device, and whether it carried out the call with that number. None if the
+        device doesn't know."""
         return None
 
     async def present(self, seconds: float | None) -> Answer | None:
-        """The present state of the device. Raises DeviceTimeout if it doesn't answer in that time."""
+        """Returns the present state of the device. Raises DeviceTimeout if it doesn't answer in that time."""
         try:
             async with asyncio.timeout(seconds):
                 return await self.tell(None)

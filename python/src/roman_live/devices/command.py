@@ -21,11 +21,11 @@ from ..processes import Processes, lock, unlock
 from .base import LONGEST_ANSWER, STATE_WORD, Answer, Listener, Reach, short
 
 REST = 0.5
-"""How many seconds to wait for the rest of the output of a command that has ended. A process that it left running may
-keep the output open."""
+"""The number of seconds to wait for the rest of the output of a command that has ended. A process that it left running
+may keep the output open."""
 
 STILL = "is still at work on an earlier call, and this home may not end it: it runs for another user"
-"""The error if a command that was given up still runs, such as one that sudo runs."""
+"""The error if a command that was given up still runs, for example because sudo runs it."""
 
 
 class Command(Reach):
@@ -64,7 +64,7 @@ class Command(Reach):
             self._before = None
 
     async def _run(self, word: str, number: int | None, holds: tuple[int, ...]) -> Answer:
-        """Runs the command once. Ends its processes that still run afterwards, or when this is cancelled."""
+        """Runs the command once. Ends those of its processes that still run afterwards, or when this is cancelled."""
         loop = asyncio.get_running_loop()
         with _naming(self._entry):
             transport, written = await loop.subprocess_exec(
@@ -126,7 +126,7 @@ class LineCommand(Reach):
     If it is numbered, each line begins with the number of a call, and so does the answer. So a late answer is
     recognised. A line that begins with `-` reports a move by itself. A command without numbers is ended if it is late
     or writes an unexpected line, since this line could be taken for the answer to another call. A command that doesn't
-    report its state in time is ended, too. It is started again at the next call.
+    report its state in time is ended, too. The next call restarts it.
     """
 
     reached = "command"
@@ -262,7 +262,7 @@ class LineCommand(Reach):
         self.listener.answered(self.service)
 
     def _awaited(self, number: int | None) -> asyncio.Future[Answer] | None:
-        """The answer that `_exchange` waits for, unless it is that to another number."""
+        """The answer for which `_exchange` waits, None if it waits for that to another number."""
         if self._waiting is None or self._waiting[1].done():
             return None
         return self._waiting[1] if number in (None, self._waiting[0]) else None

@@ -1,4 +1,4 @@
-"""Makes the reach of a service by what the home file says."""
+"""Makes the reach of a service from its entry in the home file."""
 
 from __future__ import annotations
 
@@ -25,8 +25,9 @@ def make_reach(
     before: int | None,
     outcomes: Outcomes,
 ) -> Reach:
-    """The reach of a service. Commands hold their locks in `processes`; `before` is the number of its last call, whose
-    command an earlier run may have left at work. `outcomes` says what the document allows for a call."""
+    """Makes the reach of a service. Commands hold their locks in `processes`. `before` is the number of the service's
+    last call, whose command an earlier run may have left at work. `outcomes` returns the outcomes that the document
+    allows for a call."""
     reach = entry.reach
     if isinstance(reach, Map):
         return make_mapped(service, reach, listener, broker, outcomes)
@@ -43,13 +44,13 @@ def make_reach(
 def make_mapped(
     service: str, found: Map, listener: Listener, broker: Connection | None, outcomes: Outcomes
 ) -> MappedReach:
-    """The reach of a service, or of the environment, by a map."""
+    """Makes the reach of a service, or of the environment, from a map."""
     if isinstance(found, MqttMap):
         assert broker is not None
         return MappedMqtt(service, listener, found, outcomes, broker)
     if isinstance(found, HttpMap):
         return MappedHttp(service, listener, found, outcomes)
     assert isinstance(found, ModbusMap)
-    from .modbus import Modbus  # Its client is needed only by those who have such machines.
+    from .modbus import Modbus  # Only homes with such machines need its client.
 
     return Modbus(service, listener, found, outcomes)

@@ -17,16 +17,16 @@ from .base import LONGEST_ANSWER, Answer, Listener, Reach, answer_of, json_of, s
 
 
 class Client:
-    """Sends requests to devices. Each has a connection of its own, so that a late answer can't be taken for
-    another's, and no call is lost on one that the device has left."""
+    """Sends requests to devices. Each request has a connection of its own. So a late answer can't be taken for that of
+    another request, and a request can't be lost on a connection that the device has closed."""
 
     def __init__(self) -> None:
         self._client: aiohttp.ClientSession | None = None
 
     async def open(self) -> None:
         """Prepares for requests."""
-        # The dispatcher has the deadline. Redirects, proxies and cookies aren't for devices, and nor is compression:
-        # a short answer could become one that fills the memory.
+        # The dispatcher has the deadline. Redirects, proxies and cookies aren't for devices. Neither is compression: a
+        # short answer could fill the memory.
         self._client = aiohttp.ClientSession(
             auto_decompress=False,
             headers={"Accept-Encoding": "identity"},
@@ -43,10 +43,10 @@ class Client:
     async def request(
         self, method: str, url: str, headers: Mapping[str, str], body: str | None, query: Mapping[str, str] = {}
     ) -> bytes:
-        """Sends a request, and gives the body of the answer. Raises DeviceFailed for any other status than 2xx."""
+        """Sends a request, and returns the body of the answer. Raises DeviceFailed unless the status is 2xx."""
         assert self._client is not None
         shown = _without_secrets(url)
-        # A URL that is whole is sent as it stands.
+        # A URL that is already encoded is sent unchanged.
         place = URL(url, encoded=True).update_query(query) if query else URL(url, encoded=True)
         try:
             async with self._client.request(
@@ -65,7 +65,7 @@ class Client:
 
 
 class Http(Reach):
-    """A device that carries out what is posted to its URL, and tells its state to GET."""
+    """A device that carries out actions that are posted to its URL, and returns its state to GET."""
 
     reached = "http"
 
@@ -94,14 +94,13 @@ class Http(Reach):
 
 
 def _without_secrets(url: str) -> str:
-    """A URL as it may be shown on the page: without a name, a password, and what stands behind a question
-    mark."""
+    """A URL that may be shown on the page: without a user, a password, a query and a fragment."""
     place = urlsplit(url)
     return place._replace(netloc=place.netloc.rpartition("@")[2], query="", fragment="").geturl()
 
 
 async def _read(response: aiohttp.ClientResponse) -> bytes:
-    """The body of an answer, unless it is too long."""
+    """Reads the body of an answer. Raises DeviceFailed if it is too long."""
     data = b""
     async for part in response.content.iter_any():
         data += part

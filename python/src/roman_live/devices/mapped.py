@@ -22,7 +22,7 @@ Outcomes = Callable[[Call], Collection[Outcome]]
 """The outcomes that the document allows for a call."""
 
 FIRST_LOOK, LONGEST_LOOK = 0.05, 1.0
-"""The seconds after which a device that reports nothing by itself is first asked whether it has acted, and the longest
+"""The seconds after which a device that reports nothing by itself is first asked for its new state, and the longest
 pause after that. Each pause is twice the one before."""
 
 
@@ -62,7 +62,7 @@ class MappedReach(Reach):
 def answer_in(reading: Reading | None) -> Answer:
     """The states that a reading stands for. Raises DeviceFailed if it stands for none."""
     if reading is None:
-        raise DeviceFailed("says nothing of its state")
+        raise DeviceFailed("doesn't report its state")
     if reading.state is None:
         raise DeviceFailed(reading.unknown)
     return Answer(reading.state, reading.environment)
@@ -93,8 +93,8 @@ class PolledReach(MappedReach):
         return answer_in(self.read(reply)) if self.poll is None else await self._after(expected)
 
     async def _after(self, expected: Expected) -> Answer:
-        """Waits for the first state that is an outcome. Errors are ignored, since the device may be restarting. So is
-        a lack of files, since the device has received the command."""
+        """Waits for the first state that is an outcome. Errors are ignored, because the device may be restarting. So is
+        a lack of files, because the device has received the command."""
         pause = FIRST_LOOK
         while True:
             with contextlib.suppress(DeviceFailed, NoSpace):

@@ -50,5 +50,5 @@ class MappedHttp(PolledReach):
             elif action.payload is not None:
                 body = action.payload.render(values)
         except TemplateFailed as error:
-            raise DeviceFailed(f"can't be told: {error}") from None
+            raise DeviceFailed(f"can't be asked: {error}") from None
         return (await self._client.request(action.method, action.url, headers, body)).decode(errors="replace")

@@ -47,7 +47,7 @@ class MappedMqtt(MappedReach):
             try:
                 payload = action.payload.render({"action": call.action, "id": number})
             except TemplateFailed as error:
-                raise DeviceFailed(f"can't be told to {call.action}: {error}") from None
+                raise DeviceFailed(f"can't be asked to {call.action}: {error}") from None
             if not self._broker.send_now(action.topic, payload):
                 raise DeviceFailed("the broker can't be reached")
             if action.state is not None:
@@ -81,9 +81,10 @@ class MappedMqtt(MappedReach):
             raise DeviceFailed("isn't available")
 
     def _hear(self, payload: bytes, retained: bool) -> None:
-        """Handles a message on the topic of the state. A retained one is older than an open call, and no answer."""
+        """Handles a message on the topic of the state. A retained one is older than an open call, and isn't its
+        answer."""
         if len(payload) > LONGEST_ANSWER:
-            self.listener.late(self.service, f"says more than {LONGEST_ANSWER} bytes")
+            self.listener.late(self.service, f"sent more than {LONGEST_ANSWER} bytes")
             return
         reading = self.read(payload.decode(errors="replace"))
         if reading is None:

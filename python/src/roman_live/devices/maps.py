@@ -100,7 +100,7 @@ class HttpAction(Action):
 
 @dataclass(frozen=True)
 class ModbusPlace:
-    """A coil or a register: its kind, as in `PLACES`, its address, and how many there are."""
+    """Coils or registers: their kind, as in `PLACES`, the address of the first one, and their number."""
 
     kind: str
     address: int
@@ -344,7 +344,7 @@ def _states(table: Table) -> States:
 
 
 def _names(table: Table, key: str) -> Mapping[str, str] | None:
-    """The states that values stand for."""
+    """The states by the values that stand for them."""
     inner = table.table(key)
     if inner is None:
         return None
@@ -378,7 +378,7 @@ def _need_state(
         raise table.wrong(key, f"is missing, as in {example}{least}")
 
 
-# Looking the names up in the document.
+# Checks against the document.
 
 
 def check_map(where: str, found: Map, document: Document, behaviour: str | None) -> None:

@@ -23,10 +23,10 @@ from .maps import ModbusAction, ModbusMap, ModbusPlace
 
 Value = TypeVar("Value")
 
-logging.getLogger("pymodbus").setLevel(logging.CRITICAL)  # Its errors are told as those of the device.
+logging.getLogger("pymodbus").setLevel(logging.CRITICAL)  # Its errors are reported as those of the device.
 
 SECONDS = 3
-"""How long a machine may take for one reply."""
+"""The number of seconds that a machine may take for one reply."""
 
 READS = {
     "coil": "read_coils",
@@ -37,14 +37,14 @@ READS = {
 """The methods of the client that read each kind of place."""
 
 UNIT = "device_id" if "device_id" in inspect.signature(ModbusTcpClient.read_coils).parameters else "slave"
-"""The client's word for the number of a machine, which newer versions have changed."""
+"""The client's name of the argument for the number of a machine. Newer versions have changed it."""
 
 
 class Modbus(PolledReach):
-    """A machine whose state is read from a place, and which acts when something is written. Each exchange has a
-    connection of its own. A machine has two threads of its own, one that reads and one that writes, since the client
-    waits: one that hangs delays no other machine, and a call doesn't wait for a poll. A call that is given up before
-    its connection is made writes nothing."""
+    """A machine whose state is read from a place, and which acts when a value is written. Each exchange has a
+    connection of its own. The client blocks, so each machine has two threads: one that reads and one that writes. A
+    machine that hangs delays no other machine, and a call doesn't wait for a poll. A call that is given up before its
+    connection is made writes nothing."""
 
     reached = "modbus"
 
@@ -75,9 +75,9 @@ class Modbus(PolledReach):
             given_up.set()
 
     def _exchange(self, talk: Callable[[Any], Value], given_up: threading.Event) -> Value:
-        """Connects, and gives what the talk with the machine gives."""
+        """Connects, and returns the value of the talk with the machine."""
         shown = f"{self._machine.host}:{self._machine.port}"
-        # Newer clients send a command again, perhaps after the deadline, unless they have no retries.
+        # Without retries, newer clients don't send a command again after the deadline.
         client = ModbusTcpClient(self._machine.host, port=self._machine.port, timeout=SECONDS, retries=0)
         try:
             if not client.connect():

@@ -14,10 +14,10 @@ from .base import Answer, Listener, Reach, answer_of, json_of, short
 
 
 class Mqtt(Reach):
-    """A device that is asked on one topic, and answers on another with the id that it was asked with.
+    """A device that is asked on one topic, and answers on another with the id of the question.
 
-    What it says there without an id is where it is by itself; `{"gone": true}`, as its last will, that it
-    is gone. Asked for no action (null) it tells its present state.
+    A message without an id reports its state by itself. `{"gone": true}`, as its last will, reports that it is gone. A
+    question without an action (null) asks for its present state.
     """
 
     reached = "mqtt"
@@ -37,7 +37,7 @@ class Mqtt(Reach):
         return await self._exchange({"id": number, "action": call.action})
 
     async def tell(self, number: int | None, call: Call | None = None) -> Answer | None:
-        # Numbers below 0 are those of no call.
+        # Calls have no numbers below 0.
         self._last = min(self._last - 1, -int(time.time() * 1000))
         asked: dict[str, Any] = {"id": self._last, "action": None}
         if number is not None:
@@ -45,8 +45,9 @@ class Mqtt(Reach):
         return await self._exchange(asked)
 
     async def _exchange(self, asked: dict[str, Any]) -> Answer:
-        """Publishes what is asked, and waits for the answer with its id. It is for now alone: an action that
-        is carried out long after its deadline may have been given to another device meanwhile."""
+        """Publishes a question, and waits for the answer with its id. The question is sent only if there is a
+        connection now: an action that is carried out long after its deadline may have been given to another device
+        meanwhile."""
         number = asked["id"]
         answer: asyncio.Future[Answer] = asyncio.get_running_loop().create_future()
         self._waiting[number] = answer
@@ -58,7 +59,7 @@ class Mqtt(Reach):
             self._waiting.pop(number, None)
 
     def _hear(self, payload: bytes, retained: bool) -> None:
-        """A message of the device."""
+        """Handles a message of the device."""
         if not payload:
             return
         try:

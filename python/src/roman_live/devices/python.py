@@ -80,7 +80,7 @@ class PythonDevice(Reach):
                 loop.call_soon_threadsafe(ended, value, failure)
 
         self._at_work = True
-        # A daemon, since one that hangs must not keep the home from its end.
+        # It is a daemon, because a thread that hangs must not keep the home from its end.
         threading.Thread(target=work, daemon=True).start()
         value = await answer
         return await _value_of(lambda: value, ()) if inspect.isawaitable(value) else value
@@ -136,4 +136,4 @@ def _answer(value: Any) -> Answer:
         return Answer(value)
     if isinstance(value, (tuple, list)) and len(value) == 2 and all(isinstance(each, str) for each in value):
         return Answer(value[0], value[1])
-    raise roman_client.DeviceFailed(f"gave {short(value)}, which is no outcome")
+    raise roman_client.DeviceFailed(f"gave {short(value)}, which isn't an outcome")

@@ -32,11 +32,11 @@ class Simulated(Reach):
 
     @property
     def waiting(self) -> bool:
-        """Whether an outcome is waited for."""
+        """Whether a call waits for its outcome."""
         return self._outcome is not None and not self._outcome.done()
 
     def answer(self, answer: Answer | None) -> None:
-        """Says what came of the call that is under way; with None, that it failed."""
+        """Ends the call that is under way with this answer. None means that it failed."""
         assert self._outcome is not None
         if answer is None:
             self._outcome.set_exception(DeviceFailed("it was told to fail"))
