@@ -1,5 +1,6 @@
-"""The definitions of `specs/`, the types and constants of the sources that they name, and the promises to readers: the
-clauses of `serve` and of the program's `run`, those of the outside that they are called with, and the laws."""
+"""The definitions of `specs/`, the types and constants of sources that they name, and the promises to readers. The
+promises are the clauses of `serve`, of the program's `run` and of the traits with which they are called, and the
+laws."""
 
 import hashlib
 import re
@@ -13,7 +14,7 @@ from crates import TOP
 
 CRATES = TOP / "crates"
 DECLARED = ".specs.declared."
-"""What stands in the name of a page that the toolchain makes from a source."""
+"""A part of the names of pages that the toolchain makes from sources."""
 
 HEAD = re.compile(r"(?:abbrev pub|unfoldable pub|pub record|pub data) +([^\s:(){}]+)")
 MUTUAL = re.compile(r"(?:unfoldable |abbrev )?mutual$")
@@ -29,8 +30,8 @@ PROMISE = re.compile(r"^pub fn (serve|run)<[^{]*?\) -> \w+\n(.*?)^\{|^pub fn (\w
 
 
 class Definition(NamedTuple):
-    """A definition by its page, as `use` writes it without `Rattle.`, and its name. The page of what stands in a
-    source has `src` in the place of `specs`."""
+    """A definition: its page, in the form of `use` without `Rattle.`, and its name. The page of an item of a source has
+    `src` in place of `specs`."""
 
     page: str
     name: str
@@ -38,8 +39,8 @@ class Definition(NamedTuple):
 
 @dataclass
 class Source:
-    """Where a definition stands: its file and the number of its first line, the comment before it and its lines. It
-    names definitions of this repository directly, and words of libraries."""
+    """The source of a definition: its file, the number of its first line, the comment before it, and its lines. `names`
+    are the definitions of this repository that it names directly, and `words` are words of libraries."""
 
     file: Path
     line: int
@@ -107,8 +108,8 @@ def in_source(file: Path) -> Iterator[tuple[str, Source]]:
 
 
 class Imports:
-    """What a page takes from elsewhere: names of this repository, each as it stands there; pages that it names as a
-    whole; and words of libraries."""
+    """The imports of a page: names of this repository with their definitions, pages that it imports as a whole, and
+    words of libraries."""
 
     def __init__(self, text: str) -> None:
         self.names: dict[str, Definition] = {}
@@ -129,7 +130,8 @@ class Imports:
                 self.names.update({here: Definition(page, there) for there, here in taken})
 
     def declared(self, page: str, taken: list[tuple[str, str]]) -> None:
-        """A name of a page that is made from a source stands for the item there, and so does a variant."""
+        """Adds names of a page that is made from a source. Each means the item in the source; a variant means its
+        type."""
         crate, _, rest = page.partition(DECLARED)
         modules = [word for word in rest.split(".") if word[0].islower()]
         types = [word for word in rest.split(".") if word[0].isupper() and not word.startswith("The")]
@@ -181,8 +183,8 @@ def definitions() -> Sources:
 
 @lru_cache(maxsize=None)
 def promises() -> Sources:
-    """The clauses of `serve`, `run` and the traits that they are called with, and those of the laws: functions that
-    take nothing."""
+    """The clauses of `serve`, of `run` and of the traits with which they are called, and those of the laws. A law is a
+    function without parameters."""
     known = definitions()
     found: Sources = {
         one: source for one, source in known.items() if one.name in OUTSIDE and one.page.startswith("roman_io.src.")
@@ -199,7 +201,7 @@ def promises() -> Sources:
 
 
 def rests_on(roots: Iterable[Definition]) -> set[Definition]:
-    """The definitions to which these lead, themselves among them."""
+    """The definitions to which these lead, including themselves."""
     known = definitions()
     found = set(roots)
     left = [*found]
@@ -211,8 +213,8 @@ def rests_on(roots: Iterable[Definition]) -> set[Definition]:
 
 
 def digests() -> str:
-    """The lines of `tests/pages.sha256`: for each file that the promises rest on, a digest of what it has of them.
-    Comments and the layout don't count, and no definition on which no promise rests."""
+    """The lines of `tests/pages.sha256`: a digest for each file that has definitions on which the promises rest. Only
+    those definitions count, without their comments and their layout."""
     known, promised = definitions(), promises()
     found = {
         **{one: known[one] for one in rests_on(one for source in promised.values() for one in source.names)},
