@@ -1,7 +1,7 @@
 /* libroman: sessions of roman within a process.
 
-   A program puts the texts of documents on a shelf, opens a session of one of them, and passes it lines. Each line
-   and each reply is that of `roman run`, byte for byte; roman(1) lists them.
+   A program puts the texts of documents on a shelf, opens a session of one of them, and passes lines to it. The lines
+   and the replies are those of `roman run`, byte for byte. roman(1) lists them.
 
        roman_shelf shelf = ROMAN_NONE;
        roman_session session = ROMAN_NONE;
@@ -24,8 +24,8 @@
    - Only one call at a time may use a handle. Any thread may make it, and calls on other handles may run beside it.
    - malloc, realloc and free are those of C. If memory runs out, the call returns ROMAN_MEMORY.
 
-   A handle that is empty, closed or of the other kind never causes an error of memory: each call refuses it by a
-   status. Bytes may have any value, and lines any length. */
+   A handle that is empty, closed or of the other kind never causes a memory error: each call refuses it with a status.
+   Bytes may have any value, and lines any length. */
 #ifndef ROMAN_H
 #define ROMAN_H
 
@@ -46,8 +46,8 @@ typedef struct { void *at; bool full; } roman_session;
 /* The empty handle. */
 #define ROMAN_NONE { 0, 0 }
 
-/* The statuses that calls return. One from 101 on is a refusal by the session: the reply is the line of the refusal,
-   and the session is as it was. */
+/* The statuses that calls return. A status from 101 on is a refusal by the session. The reply is then the line of the
+   refusal, and the session is unchanged. */
 enum roman_status {
     ROMAN_OK = 0,
     ROMAN_QUIT = 1,             /* the line was `quit`, and the reply is `bye` */
@@ -55,7 +55,7 @@ enum roman_status {
     ROMAN_CLOSED = 2,           /* no session is open, or the handle isn't a shelf */
     ROMAN_REFUSED = 3,          /* the document is refused */
     ROMAN_LIMIT = 4,            /* the document's system exceeds its limit */
-    ROMAN_MISSING = 5,          /* a text that is named isn't on the shelf */
+    ROMAN_MISSING = 5,          /* a named text isn't on the shelf */
     ROMAN_TOO_LONG = 8,         /* roman_check: the certificate is too long */
     ROMAN_MEMORY = 9,           /* out of memory */
     ROMAN_NOT_UTF8 = 10,        /* a name isn't UTF-8 */
@@ -75,23 +75,22 @@ enum roman_status {
     ROMAN_ERROR_RELATED = 114   /* error related */
 };
 
-/* Adds a text to a shelf. Of two texts with one name the later one counts. Returns ROMAN_OK. On
-   ROMAN_CLOSED (the handle is a session), ROMAN_MEMORY and ROMAN_NOT_UTF8 the shelf is as it was. */
+/* Adds a text to a shelf. If several texts have one name, the last one counts. Returns ROMAN_OK. On ROMAN_CLOSED (the
+   handle is a session), ROMAN_MEMORY and ROMAN_NOT_UTF8 the shelf is unchanged. */
 uint32_t roman_add(roman_shelf *shelf, const uint8_t *name, size_t name_len, const uint8_t *text, size_t text_len);
 
-/* Opens a session of the system document of that name on the shelf, and closes the session that was open. The
-   shelf also has the part files that the document names. Returns ROMAN_OK. On any other status no session is open.
-   These are ROMAN_REFUSED and ROMAN_LIMIT, with the reason as the reply, ROMAN_MISSING, ROMAN_MEMORY and
-   ROMAN_NOT_UTF8. */
+/* Opens a session of the system document of that name on the shelf, and closes the session that was open. The part
+   files that the document names must be on the shelf, too. Returns ROMAN_OK. On any other status no session is open: on
+   ROMAN_REFUSED and ROMAN_LIMIT, whose reply is the reason, and on ROMAN_MISSING, ROMAN_MEMORY and ROMAN_NOT_UTF8. */
 uint32_t roman_open(roman_session *session, roman_shelf *shelf, const uint8_t *name, size_t name_len);
 
-/* Answers a line, passed without its newline, and keeps the reply in place of the last one. Returns ROMAN_OK if
-   the event is accepted, or the line is blank or a comment; ROMAN_QUIT; ROMAN_CLOSED; or the number of the
-   refusal. ROMAN_MEMORY: the event took effect, but there was no memory for the whole reply. */
+/* Answers a line, passed without its newline, and stores the reply in place of the last one. Returns ROMAN_OK if the
+   event is accepted, or if the line is blank or a comment. Otherwise returns ROMAN_QUIT, ROMAN_CLOSED or the number of
+   the refusal. On ROMAN_MEMORY the event took effect, but there was no memory for the whole reply. */
 uint32_t roman_answer(roman_session *session, const uint8_t *line, size_t line_len);
 
-/* Copies the last reply, from byte `from` on, to `into`, as many bytes as it has room for. Returns the length of
-   the whole reply, which is 0 if there is none. The reply ends with a newline, and has no zero after it. */
+/* Copies at most `room` bytes of the last reply, from byte `from` on, to `into`. Returns the length of the whole reply,
+   which is 0 if there is none. The reply ends with a newline, and has no zero after it. */
 size_t roman_reply(roman_session *session, size_t from, uint8_t *into, size_t room);
 
 /* ---- Without a session
@@ -100,20 +99,20 @@ size_t roman_reply(roman_session *session, size_t from, uint8_t *into, size_t ro
    and the result is its exit status. ROMAN_REFUSED, ROMAN_LIMIT, ROMAN_MISSING and ROMAN_NOT_UTF8 mean the same as in
    roman_open. After ROMAN_MEMORY the reply is the beginning of the text, or empty. */
 
-/* Reports on the system document of that name on the shelf, as `roman synth` does. Returns ROMAN_OK if its target can be
-   composed, and ROMAN_NO if it can't. */
+/* Reports on the system document of that name on the shelf, as `roman synth` does. Returns ROMAN_OK if its target can
+   be composed, and ROMAN_NO if it can't. */
 uint32_t roman_synth(roman_session *session, roman_shelf *shelf, const uint8_t *name, size_t name_len);
 
 /* Checks the certificate of that name on the shelf for the system document of that name, as `roman check` does. Returns
-   ROMAN_OK if it is right and complete, ROMAN_NO if it is rejected, or ROMAN_TOO_LONG. */
+   ROMAN_OK if the certificate is right and complete, ROMAN_NO if it is rejected, or ROMAN_TOO_LONG. */
 uint32_t roman_check(roman_session *session, roman_shelf *shelf, const uint8_t *name, size_t name_len,
                      const uint8_t *certificate, size_t certificate_len);
 
 /* ---- Events by numbers
 
-   Actions, states and behaviours are numbered from 0 in the order of the document, and services by their places.
-   Each call answers the line that names what has these numbers, as roman_answer does, with the same statuses and
-   the same reply. An unused number counts as an unknown name: ROMAN_ERROR_NAME. */
+   Actions, states and behaviours are numbered from 0 in the order of the document, and services by their places. Each
+   call does the same as roman_answer for the line with the names of these numbers, and has the same statuses and the
+   same reply. An unused number counts as an unknown name: ROMAN_ERROR_NAME. */
 
 /* do ACTION. If it is accepted, roman_offers returns the offered services. */
 uint32_t roman_request(roman_session *session, uint32_t action);
@@ -145,11 +144,11 @@ uint32_t roman_jump_env(roman_session *session, uint32_t env);
 
 /* ---- Numbers and names */
 
-/* No number. */
+/* The value that stands for no number. */
 #define ROMAN_NO_NUMBER UINT32_MAX
 
-/* The kinds of numbers. The states of a service or of a behaviour are those of number `of`; all other kinds ignore
-   `of`. */
+/* The kinds of numbers. For states of a service or of a behaviour, `of` is the number of that service or behaviour. All
+   other kinds ignore `of`. */
 enum roman_kind {
     ROMAN_ACTION = 0,
     ROMAN_ENV_STATE = 1,
@@ -160,11 +159,11 @@ enum roman_kind {
     ROMAN_BEHAVIOUR_STATE = 6
 };
 
-/* Returns the number of the name, or ROMAN_NO_NUMBER. Of two behaviours with one name it is the first. */
+/* Returns the number of a name, or ROMAN_NO_NUMBER. If two behaviours have the name, it is the number of the first. */
 uint32_t roman_find(roman_session *session, uint32_t kind, uint32_t of, const uint8_t *name, size_t name_len);
 
-/* Copies the name of a number to `into`, as many bytes as it has room for, and returns its length: 1 to 32, or 0 if
-   nothing has the number. */
+/* Copies at most `room` bytes of the name of a number to `into`. Returns the length of the name: 1 to 32, or 0 if the
+   number is unused. */
 size_t roman_name(roman_session *session, uint32_t kind, uint32_t of, uint32_t number, uint8_t *into, size_t room);
 
 /* Returns the services that are offered for the open request: bit k is 1 exactly if the service at place k is

@@ -1,4 +1,4 @@
-// libroman for C++17: a shelf and a session that return their memory by themselves. roman.h describes the calls.
+// libroman for C++17: a shelf and a session that release their memory themselves. roman.h describes the calls.
 #ifndef ROMAN_HPP
 #define ROMAN_HPP
 
@@ -21,7 +21,7 @@ inline const std::uint8_t *bytes(std::string_view text) {
     return reinterpret_cast<const std::uint8_t *>(text.empty() ? "" : text.data());
 }
 
-// A handle that can be moved and not copied.
+// A handle that can be moved, but not copied.
 template <class Handle, void (*Free)(Handle *)>
 class Owner {
   public:
@@ -81,7 +81,7 @@ class Session : public detail::Owner<roman_session, roman_close> {
         succeed(roman_open(&handle_, &shelf.handle_, detail::bytes(name), name.size()));
     }
 
-    // Answers a line. Throws std::bad_alloc, and std::logic_error if the session was moved elsewhere.
+    // Answers a line. Throws std::bad_alloc, or std::logic_error if the session was moved elsewhere.
     Reply answer(std::string_view line) {
         const auto status = roman_answer(&handle_, detail::bytes(line), line.size());
         if (status == ROMAN_MEMORY) throw std::bad_alloc();
@@ -95,7 +95,7 @@ class Session : public detail::Owner<roman_session, roman_close> {
 
     Session() = default;
 
-    // Throws the error of a call on a document, if it has failed.
+    // Throws the error of a call on a document if the status is one.
     void succeed(std::uint32_t status) {
         if (status == ROMAN_MEMORY) throw std::bad_alloc();
         if (status == ROMAN_MISSING) throw Refused(status, "a text is missing");

@@ -28,7 +28,7 @@ static uint32_t add(roman_shelf *shelf, const char *path) {
     return status;
 }
 
-/* Writes the last reply, in pieces of the size of a buffer. */
+/* Writes the last reply in pieces of at most 4096 bytes. */
 static void write_reply(roman_session *session) {
     uint8_t piece[4096];
     size_t from = 0, whole;

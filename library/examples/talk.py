@@ -1,6 +1,6 @@
 #!/usr/bin/python3
-"""Opens a session of a system document, and answers the lines of the standard input, by ctypes alone:
-talk.py LIBRARY SYSTEM [PART ..] <SESSION. The client of this repository does it for you: roman_client."""
+"""Opens a session of a system document, and answers the lines of the standard input. It uses only ctypes:
+talk.py LIBRARY SYSTEM [PART ..] <SESSION. The package roman_client does this for you."""
 
 import ctypes
 import sys
@@ -8,7 +8,7 @@ from pathlib import Path
 
 
 class Handle(ctypes.Structure):
-    """What roman.h calls roman_shelf and roman_session."""
+    """The structure of roman_shelf and roman_session in roman.h."""
 
     _fields_ = [("at", ctypes.c_void_p), ("full", ctypes.c_bool)]
 

@@ -1,17 +1,17 @@
-/* Calls libroman as bytes say, for libFuzzer: a document, a zero, a part file, a zero, and then calls, a byte for each
-   with the bytes that it takes. Each call may come at any time. What a call returns has to be as roman.h says. */
+/* Makes the calls of libroman that libFuzzer's input encodes: a document, a zero, a part file, a zero, and then calls.
+   Each call is a byte, followed by its arguments. Calls may come in any order. The results must follow roman.h. */
 #include <roman.h>
 #include <stdlib.h>
 #include <string.h>
 
-/* What has been seen: libFuzzer keeps inputs that bring statuses and beginnings of replies in a new order. */
+/* Counters for libFuzzer, which keeps inputs that lead to new sequences of statuses and beginnings of replies. */
 __attribute__((section("__libfuzzer_extra_counters"))) static uint8_t seen[1 << 14];
 
 static const uint8_t *at, *end;
 
 static uint8_t byte(void) { return at < end ? *at++ : 0; }
 
-/* The bytes up to the next one that is `stop`. */
+/* Returns the bytes up to the next `stop`. */
 static const uint8_t *until(uint8_t stop, size_t *length) {
     const uint8_t *from = at, *found = memchr(at, stop, (size_t)(end - at));
     *length = (size_t)((found ? found : end) - at);
@@ -23,7 +23,7 @@ static void check(int holds) {
     if (!holds) abort();
 }
 
-/* Reads the whole reply in two pieces, and notes its beginning. */
+/* Reads the whole reply in two pieces, checks it, and counts its beginning. */
 static void read_reply(roman_session *session, uint32_t call, uint32_t status) {
     static uint32_t last;
     size_t length = roman_reply(session, 0, (uint8_t *)"", 0), half = length / 2;

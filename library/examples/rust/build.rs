@@ -1,4 +1,4 @@
-//! Links libroman. ROMAN_LIBRARY names the folder that has it; without it pkg-config finds the installed one.
+//! Links libroman. ROMAN_LIBRARY names its folder. Without this variable, pkg-config finds the installed library.
 use std::{env, process::Command};
 
 fn main() {

@@ -25,13 +25,12 @@ pub const OK: u32 = 0;
 pub const QUIT: u32 = 1;
 const MEMORY: u32 = 9;
 
-/// The reason why a document can't be opened or a line can't be answered: a status of `roman.h`, and the program's
-/// line if there is one.
+/// The reason why a text can't be added, a document can't be opened or a line can't be answered.
 #[derive(Debug)]
 pub struct Error {
-    /// The status.
+    /// The status of `roman.h`.
     pub status: u32,
-    /// The program's line with the reason, or nothing.
+    /// The program's line with the reason. It is empty if there is none.
     pub line: String,
 }
 
@@ -55,7 +54,7 @@ impl Shelf {
         Shelf(NONE)
     }
 
-    /// Adds a text. Of two texts with one name the later one counts.
+    /// Adds a text. If several texts have one name, the last one counts.
     pub fn add(&mut self, name: &str, text: &[u8]) -> Result<(), Error> {
         match unsafe { roman_add(&mut self.0, name.as_ptr(), name.len(), text.as_ptr(), text.len()) } {
             OK => Ok(()),
@@ -92,7 +91,7 @@ impl Session {
         }
     }
 
-    /// Answers a line: the status, which is `OK`, `QUIT` or a refusal's, and the reply.
+    /// Answers a line. Returns the status, which is `OK`, `QUIT` or that of a refusal, and the reply.
     pub fn answer(&mut self, line: &str) -> Result<(u32, String), Error> {
         match unsafe { roman_answer(&mut self.0, line.as_ptr(), line.len()) } {
             MEMORY => Err(Error { status: MEMORY, line: String::new() }),
