@@ -1,5 +1,5 @@
-"""Strategies of Hypothesis for runs of the program: documents, right and broken, sessions with changes, and
-certificates with an edit."""
+"""Hypothesis strategies for runs of the program: valid and invalid documents, sessions with changes, and edited
+certificates."""
 
 from __future__ import annotations
 
@@ -21,20 +21,20 @@ from . import PROGRAM, reference
 Item = TypeVar("Item")
 
 MOST_PAIRS = 600
-"""How many pairs the systems here have, but for a few with twice as many."""
+"""The maximum number of pairs of the systems here. A few have twice as many."""
 SYSTEM, SESSION, CERTIFICATE, COSTS = "s.json", "s.session", "s.cert", "s.costs"
 
 
 @dataclass(frozen=True)
 class Case:
-    """A run: the words, the files, and the standard input."""
+    """A run: the arguments, the files, and the standard input."""
 
     words: list[str]
     shelf: dict[str, bytes]
     session: bytes = b""
 
     def fault(self) -> str | None:
-        """How the program's run differs from the reference; None if it doesn't."""
+        """The difference of the program's run from the reference, None if there is none."""
         with tempfile.TemporaryDirectory() as folder:
             for name, text in self.shelf.items():
                 (Path(folder) / name).write_bytes(text)
@@ -56,12 +56,12 @@ class Case:
 
 
 def often(draw: st.DrawFn, percent: int) -> bool:
-    """True in so many of a hundred draws, and False once Hypothesis makes the case smaller."""
+    """True in `percent` of a hundred draws. Hypothesis shrinks it to False."""
     return draw(st.integers(0, 99)) >= 100 - percent
 
 
 def one(draw: st.DrawFn, items: Sequence[Item]) -> Item:
-    """One of some items, the first one once Hypothesis makes the case smaller."""
+    """One of some items. Hypothesis shrinks it to the first one."""
     return items[draw(st.integers(0, len(items) - 1))]
 
 
@@ -133,7 +133,7 @@ def behaviour(draw: st.DrawFn, name: str, world: Any, counts: Sequence[int]) -> 
 
 
 def target(draw: st.DrawFn, world: Any, most: int, like: Any) -> dict[str, Any]:
-    """A target: drawn anew, or a behaviour with one of its answers to each request."""
+    """A target: a new one, or a behaviour with one of its answers to each request."""
     states = like["states"] if like else names(draw, "t", range(1, most + 1))
     found: list[Any] = []
     for state in states:
@@ -150,7 +150,7 @@ def target(draw: st.DrawFn, world: Any, most: int, like: Any) -> dict[str, Any]:
 
 
 def services(draw: st.DrawFn, kinds: Sequence[Any], room: float) -> list[dict[str, Any]]:
-    """Services of these kinds, as many as there is room for their pairs."""
+    """Services of these kinds, as many as the maximum number of pairs allows."""
     found: list[dict[str, Any]] = []
     for kind in kinds:
         room /= len(kind["states"])
@@ -164,9 +164,9 @@ def services(draw: st.DrawFn, kinds: Sequence[Any], room: float) -> list[dict[st
 
 @st.composite
 def systems(draw: st.DrawFn) -> Any:
-    """A document that the program accepts. Now and then it has so many services that only the last of them share a
-    row of up to 64 pairs, or three so large that one of them makes a row, the next one a band of rows, and the first
-    stands before bands."""
+    """A document that the program accepts. Sometimes it has so many services that only the last of them share a row of
+    up to 64 pairs. Sometimes it has three services so large that one makes a row, the next a band of rows, and the
+    first is before the bands."""
     shape = one(draw, ["few", "few", "many", "large"])
     world = environment(draw)
     sizes = {"few": [2, 3, 4], "many": [2, 2, 3], "large": [8]}[shape]
@@ -188,11 +188,11 @@ def systems(draw: st.DrawFn) -> Any:
     library = read(value)
     parts = len(library.target.states) * len(library.world.states)
     value["services"] = services(draw, kinds, (2 if shape == "large" else 1) * MOST_PAIRS / parts)
-    # Mostly one with a composition from its start: more is asked of it.
+    # Most have a composition from the start, so that more of the program runs.
     library = read(value)
     system = reference.System(library, library.services)
     assume(reference.start_of(library) in system.related or often(draw, 30))
-    # A limit, often one that is met exactly, now or by a service that joins.
+    # A limit, which is often met exactly, now or by a service that joins.
     cells = system.count * len(library.world.actions)
     room = cells * len(one(draw, catalogue)["states"])
     limit = one(draw, [None, None, None, cells, room, room - 1, 3 * cells, 4 * cells, 1 << 24, cells - 1])
@@ -200,7 +200,7 @@ def systems(draw: st.DrawFn) -> Any:
 
 
 def read(value: Any) -> reference.Library:
-    """Reads a document. One that breaks a rule is drawn anew."""
+    """Reads a document. If it breaks a rule, another one is drawn."""
     try:
         return reference.read_library({SYSTEM: json.dumps(value).encode()}, SYSTEM)
     except reference.Refused:
@@ -209,7 +209,7 @@ def read(value: Any) -> reference.Library:
 
 
 def text(draw: st.DrawFn, value: Any, space: str = "", depth: int = 0) -> str:
-    """A text of JSON of that value: its members in any order, some twice, some that no reader uses."""
+    """The value as a text of JSON. Its members have any order. Some are repeated, and some are unknown."""
     inside = space if depth < 3 else ""
     if isinstance(value, dict):
         items = [f"{json.dumps(name)}{inside}:{text(draw, each, space, depth + 1)}" for name, each in value.items()]
@@ -248,8 +248,8 @@ def shelf_of(draw: st.DrawFn, value: Any) -> dict[str, bytes]:
 
 
 def place(draw: st.DrawFn, value: Any) -> tuple[Any, Any]:
-    """A list or an object in a value, with an index or a name. It is drawn from the top down, so that it isn't
-    mostly in a long list of steps."""
+    """A list or an object in a value, with an index or a name. It is drawn from the top down, because most of all
+    values are in long lists of steps."""
     key = one(draw, list(value) if isinstance(value, dict) else range(len(value)))
     inner = value[key]
     return place(draw, inner) if isinstance(inner, (dict, list)) and inner and often(draw, 75) else (value, key)
@@ -277,7 +277,7 @@ def edited(draw: st.DrawFn, value: Any) -> Any:
 
 
 def edited_text(draw: st.DrawFn, given: bytes) -> bytes:
-    """A text with one of its bytes gone, another, or one more."""
+    """A text in which one byte is removed, replaced or inserted."""
     at = draw(st.integers(0, len(given)))
     byte = bytes([one(draw, [*b'{}[]",:0123456789.eE+-tfnu\\/ \n\r\t\0', 128, 195, 237, 255])])
     tail = given[at + 1 :]
@@ -285,7 +285,7 @@ def edited_text(draw: st.DrawFn, given: bytes) -> bytes:
 
 
 def edited_certificate(draw: st.DrawFn, given: bytes) -> bytes:
-    """A certificate with one edit, mostly of an entry."""
+    """A certificate with one edit, usually of an entry."""
     lines = given.split(b"\n")
     places = range(2, len(lines) - 2) if len(lines) > 4 and often(draw, 80) else range(len(lines))
     at, other = one(draw, places), one(draw, places)
@@ -323,7 +323,7 @@ def costs(draw: st.DrawFn, library: reference.Library) -> bytes:
 
 
 def session(draw: st.DrawFn, library: reference.Library) -> bytes:
-    """Lines that mostly are no refusals: what is offered is used, and what is possible is seen."""
+    """Lines that are mostly accepted: they use offered services, and report possible outcomes."""
     situation = reference.Session(library)
     lines: list[bytes] = []
     joined = 0
@@ -377,7 +377,7 @@ def change(draw: st.DrawFn, situation: reference.Session, joined: int) -> str:
 
 
 def odd_line(draw: st.DrawFn, situation: reference.Session) -> str:
-    """A line that is mostly refused, or has no reply."""
+    """A line that is usually refused, or has no reply."""
     library, kind = situation.library, situation.library.catalogue[0]
     words = [*(each.name for each in situation.system.services), *library.world.states, *library.world.actions]
     words += [*(each.name for each in library.catalogue), *kind.states, "loose", "x", "?", "é", "#"]
@@ -391,7 +391,7 @@ def odd_line(draw: st.DrawFn, situation: reference.Session) -> str:
 
 
 def spaced(draw: st.DrawFn, line: str) -> bytes:
-    """The line's words with other spaces between and around them, a carriage return, or far too many."""
+    """The line with other blanks between and around its words, with a carriage return, or with far too many blanks."""
     if not often(draw, 15):
         return line.encode()
     space = one(draw, [" ", "\t", "  ", " \t "])
@@ -410,7 +410,7 @@ def pairs_of(library: reference.Library) -> int:
 
 
 def grows_too_large(situation: reference.Session, line: str) -> bool:
-    """Whether a service joins by a line, and the system then has more pairs than the systems here."""
+    """Whether a service joins by a line, and the system then exceeds the maximum number of pairs."""
     words = line.split()
     kinds = {each.name: each for each in situation.library.catalogue}
     if words[:1] != ["join"] or len(words) < 4 or words[2] not in kinds:

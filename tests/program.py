@@ -1,4 +1,4 @@
-"""The built program, as the tests run it."""
+"""Runs the built program for tests."""
 import os
 import subprocess
 from dataclasses import dataclass
@@ -15,7 +15,7 @@ SHELF_FAULT, READ_FAULT, WRITE_FAULT, TOO_LONG, MEMORY = 5, 6, 7, 8, 9
 
 @dataclass(frozen=True)
 class Ended:
-    """How a run ended: its status, and what it wrote to standard output."""
+    """The end of a run: its status, and its standard output."""
 
     status: int
     text: bytes

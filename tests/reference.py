@@ -1,8 +1,8 @@
-"""What `roman` should answer, worked out another way.
+"""A reference implementation of `roman`, by other algorithms.
 
-Written from docs/GUIDE.md and the definitions alone. It shares nothing with the program: documents are read
-into sets of steps, the greatest simulation is found by plain rounds over all pairs, and nothing is kept from
-one system to the next. It is slow, and meant for systems of some hundred pairs.
+It was written from docs/GUIDE.md and the definitions alone, and shares no code with the program. It reads documents
+into sets of steps, finds the greatest simulation by plain rounds over all pairs, and computes each system afresh. It is
+slow, and meant for systems of some hundred pairs.
 """
 
 from __future__ import annotations
@@ -27,11 +27,11 @@ NAME = re.compile(r"[A-Za-z0-9_-]{1,32}")
 Pair = tuple[int, ...]
 """The states of the target, of the environment, and of each service."""
 Shelf = Mapping[str, bytes]
-"""The texts of the files that are there."""
+"""The texts of the files, by their names."""
 
 
 class Refused(Exception):
-    """A document, or a table of costs, breaks a rule. Its text is the line that says which."""
+    """A document or a table of costs breaks a rule. The text of the error is the program's line."""
 
 
 class OverLimit(Exception):
@@ -39,18 +39,19 @@ class OverLimit(Exception):
 
 
 class Absent(Exception):
-    """A file isn't there."""
+    """A file doesn't exist."""
 
 
 # Texts of JSON.
 
 
 class Members(list[tuple[str, Any]]):
-    """The members of an object as they stand in the text, repeated ones too."""
+    """The members of an object in the order of the text, with repeated ones."""
 
 
 def number_of(text: str) -> Any:
-    """A number: an int where it has no sign, point or exponent and is below 2^64, else a finite float."""
+    """A number. It is an int if it is below 2^64 without a sign, a point and an exponent, and otherwise a finite
+    float."""
     if text.isdigit() and len(text) <= 20 and int(text) < 1 << 64:
         return int(text)
     value = float(text)
@@ -64,7 +65,7 @@ def no_constant(_: str) -> NoReturn:
 
 
 def plain(value: Any, depth: int = 0) -> Any:
-    """A value with its objects as dicts, where it has no half letters and isn't nested too deep."""
+    """A value with its objects as dicts. Raises ValueError if it has single surrogates, or is nested too deeply."""
     if isinstance(value, str):
         value.encode()
     if not isinstance(value, list):
@@ -77,7 +78,7 @@ def plain(value: Any, depth: int = 0) -> Any:
 
 
 def parsed(text: bytes) -> Any:
-    """The value of a text. ValueError or RecursionError where it has none."""
+    """The value of a text. Raises ValueError or RecursionError if it isn't valid."""
     return plain(
         json.loads(
             text.decode(),
@@ -94,7 +95,7 @@ def parsed(text: bytes) -> Any:
 
 @dataclass(frozen=True)
 class World:
-    """The environment: where an action may lead from a state."""
+    """The environment, with the states to which an action may lead from a state."""
 
     states: list[str]
     start: int
@@ -133,7 +134,7 @@ class Library:
 
 @dataclass(frozen=True)
 class Reader:
-    """Where a value stands, for the lines that refuse it."""
+    """Reads a part, and knows its place for refusals."""
 
     shelf: Shelf
     file: str
@@ -158,7 +159,7 @@ class Reader:
             self.refuse("notjson", "whole")
 
     def part_of(self, value: Any) -> tuple[Reader, Any]:
-        """A part, from its file where it is given by one."""
+        """A part, which is read if it names a file."""
         if isinstance(value, dict) and "file" in value:
             name = value["file"]
             self.check(isinstance(name, str), "form", "file")
@@ -252,7 +253,7 @@ class Reader:
         return Machine(name, states, first, final, frozenset((b, e, a, c) for b, met, a, c in read for e in met))
 
     def choice(self, steps: list[tuple[int, frozenset[int], int, int]], world: World) -> None:
-        """Refuses a target that has two ways to go."""
+        """Refuses a target that has a choice."""
         for later, (b, met, a, c) in enumerate(steps):
             for earlier, (b2, met2, a2, c2) in enumerate(steps[:later]):
                 if (b, a) == (b2, a2) and c != c2 and met & met2:
@@ -312,7 +313,7 @@ def read_service(place: Reader, value: Any, earlier: list[Service], catalogue: l
 
 
 def combined(top: Reader, library: Library, targets: list[Machine]) -> Library:
-    """Several targets as one: a request moves its own target, and the others stay."""
+    """Several targets as one target. A request moves its own target, and the others keep their states."""
     world = library.world
     asked = [
         (number, action)
@@ -358,11 +359,11 @@ def combined(top: Reader, library: Library, targets: list[Machine]) -> Library:
     )
 
 
-# Pairs, and what holds of them.
+# Pairs, and their properties.
 
 
 class System:
-    """A library with the services present: its pairs, and which of them are related."""
+    """A library with the present services: its pairs, and which of them are related."""
 
     def __init__(self, library: Library, services: Sequence[Service]) -> None:
         self.library = library
@@ -409,7 +410,7 @@ class System:
         return self._turns[pair]
 
     def _outcomes(self, pair: Pair, action: int, seat: int) -> list[Pair]:
-        """Where a request may lead when a service takes it, by the environment's state and then by its own."""
+        """The outcomes of a request that a service takes, ordered by the environment's state and then by its own."""
         t, e, *states = pair
         turns = [] if self.services[seat].frozen else self._seats[seat].get((states[seat], e, action), [])
         return [
@@ -423,7 +424,7 @@ class System:
         return self.turns(pair)[action][seat]
 
     def may_rest(self, pair: Pair) -> bool:
-        """Whether the target is in no final state, or each service that rests is in one."""
+        """Whether the target isn't in a final state, or each service that has to rest is in one."""
         return pair[0] not in self.library.target.final or all(
             not each.rests or b in each.machine.final for each, b in zip(self.services, pair[2:])
         )
@@ -433,7 +434,8 @@ class System:
         return [seat for seat, to in enumerate(self.turns(pair)[action]) if to and all(map(good, to))]
 
     def fails(self, pair: Pair, good: Callable[[Pair], bool]) -> Iterator[int | None]:
-        """Why a pair can't be related where only those pairs are good: None for its rest, or an action."""
+        """The reasons why a pair can't be related if only those pairs are good: None if services don't rest, or an
+        action."""
         if not self.may_rest(pair):
             yield None
         for action in self.allowed(pair):
@@ -455,7 +457,7 @@ class System:
         return sum(len(self.offers(pair, action)) for pair in self.pairs for action in self.actions)
 
     def depths(self) -> list[set[Pair]]:
-        """The pairs that are lost within so many requests, and not within fewer."""
+        """The pairs that are lost within exactly 0, 1, 2 .. requests."""
         levels = [{pair for pair in self.pairs if not self.may_rest(pair)}]
         while True:
             lost = set().union(*levels)
@@ -471,7 +473,7 @@ class System:
 
 
 def steps_from(machine: Machine) -> dict[tuple[int, int, int], list[int]]:
-    """Where a machine may go, by its state, the environment's and the action."""
+    """The next states of a machine, by its state, the environment's state and the action."""
     found: dict[tuple[int, int, int], list[int]] = {}
     for b, e, a, c in sorted(machine.steps):
         found.setdefault((b, e, a), []).append(c)
@@ -627,7 +629,7 @@ def check(system: System, start: Pair, text: bytes) -> tuple[int, str]:
 
 
 def certificate(system: System, draw: Callable[[list[Any]], Any]) -> bytes:
-    """A certificate, its entries drawn from those that are justified by then."""
+    """A certificate whose entries are drawn from those that the earlier entries justify."""
     listed: set[Pair] = set()
     lines = ["roman-order 1\n", f"pairs {system.count}\n"]
     while len(listed) < system.count - len(system.related):
@@ -664,8 +666,8 @@ CHANGES = ("freeze", "thaw", "die", "join", "jump", "jumpenv")
 
 @dataclass(frozen=True)
 class Tally:
-    """The reply to a change: how many pairs aren't related then, and how many follow from before, where
-    that doesn't depend on the list that the program keeps."""
+    """The reply to a change: the number of pairs that aren't related after it, and the number of those that follow from
+    before, if this doesn't depend on the program's list."""
 
     total: int
     kept: int | None
@@ -673,14 +675,14 @@ class Tally:
 
 @dataclass(frozen=True)
 class Explained:
-    """The reply to `explain` at a pair, which is any explanation that is right."""
+    """The reply to `explain` at a pair: any right explanation."""
 
     system: System
     pair: Pair
 
 
 class Session:
-    """The situation of a session. `tell` answers a line."""
+    """A session. `tell` answers a line."""
 
     def __init__(self, library: Library) -> None:
         self.library = library
@@ -826,8 +828,8 @@ def put(pair: Pair, place: int, state: int) -> Pair:
 
 
 def explanation_fault(asked: Explained, lines: list[str]) -> str | None:
-    """What is wrong with an explanation: each entry follows from those above it, each but the last one is
-    used below, and the last one is the present pair's."""
+    """The fault of an explanation, None if it is right. Each entry must follow from earlier ones, and be used by a
+    later one unless it is the last. The last entry must be the present pair."""
     system, world = asked.system, asked.system.library.world
     listed: list[Pair] = []
     used = {asked.pair}
@@ -873,7 +875,7 @@ def explanation_fault(asked: Explained, lines: list[str]) -> str | None:
 
 
 def session_fault(session: Session, lines: Sequence[bytes], told: str) -> str | None:
-    """What is wrong with the replies to the lines of a session; None where nothing is."""
+    """The fault of the replies to the lines of a session, None if they are right."""
     for line in lines:
         reply = session.tell(line)
         if isinstance(reply, str):
@@ -906,7 +908,7 @@ def lines_of(session: bytes) -> list[bytes]:
 
 
 def shape_of(words: Sequence[str]) -> bool:
-    """Whether words are a command."""
+    """Whether the arguments have the form of a command."""
     command, count = (words or [""])[0], len(words)
     if command == "make":
         return count == 2 and words[1] in map(str, range(1, 11))
@@ -923,7 +925,7 @@ def shape_of(words: Sequence[str]) -> bool:
 
 
 def run_fault(words: Sequence[str], shelf: Shelf, session: bytes, status: int, told: bytes) -> str | None:
-    """What is wrong with how a run ended, and with what it wrote; None where nothing is."""
+    """The fault of the status or the output of a run, None if they are right."""
     text = told.decode("latin-1")
     try:
         ended, due = run(words, shelf, session, text)
@@ -939,7 +941,7 @@ def run_fault(words: Sequence[str], shelf: Shelf, session: bytes, status: int, t
 
 
 def run(words: Sequence[str], shelf: Shelf, session: bytes, text: str) -> tuple[int, Any]:
-    """The status of a run, and its text, or a function that says what is wrong with the text that it has."""
+    """The status of a run, and its output, or a function that returns the fault of an output."""
     if not shape_of(words):
         return USAGE, USAGE_LINE
     if words[0] == "make":
@@ -976,7 +978,7 @@ def text_of(shelf: Shelf, file: str) -> bytes:
 
 
 def made(count: int) -> str:
-    """What `make` writes of that many workers."""
+    """The output of `make` for so many workers."""
     actions = ["start", "stop", "mend", "hold", "go"]
     floor = World(["floor"], 0, actions, frozenset((0, a, 0) for a in range(5)))
 

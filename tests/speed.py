@@ -1,7 +1,8 @@
-"""Prints the figures of tests/speed.json anew, as the built program has them: python3 -m tests.speed > new.json.
+"""Measures the figures of tests/speed.json again with the built program, and prints them:
+python3 -m tests.speed > new.json.
 
-ROMAN names another program. Compare what it prints with the table before it takes its place: a digest of an
-output changes only where the output does.
+ROMAN names another program. Compare the new table with the old one before you replace it. A digest of an output changes
+only if the output does.
 """
 
 import json

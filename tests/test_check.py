@@ -1,4 +1,4 @@
-"""tools/check: which crates it checks, in what order, and what it says of them. An `rt` of the test's own stands in."""
+"""tools/check: the crates that it checks, their order, and its output. The tests use an `rt` of their own."""
 
 import os
 import re
@@ -70,7 +70,7 @@ class Tree:
         )
 
     def asked(self, *words: str) -> list[str]:
-        """The crates that were checked, in order, where nothing is refused."""
+        """The crates that were checked, in their order, if none is refused."""
         done = self.check(*words)
         assert (done.returncode, done.stderr) == (0, "")
         names = (self.top / "asked").read_text(encoding="utf-8").split()

@@ -1,5 +1,5 @@
-"""The program's edges: standard input and output in pieces of any size, files and folders, and the greatest
-lengths of what is read."""
+"""The program's interfaces: standard input and output in pieces of any size, files and folders, and the maximum lengths
+of inputs."""
 import os
 import select
 import shutil
@@ -39,7 +39,7 @@ def file(folder, name, content):
 
 
 def zeros(folder, name, size):
-    """The name of a file of that many zero bytes, of which the disk keeps none."""
+    """The name of a sparse file of that many zero bytes."""
     with open(folder / name, "wb") as made:
         made.truncate(size)
     return name
@@ -85,7 +85,7 @@ def test_output_that_is_read_late(folder):
         text, _ = roman.communicate(timeout=400)
     assert roman.returncode == program.DONE
     is_whole = text == RIGHT.text * lines
-    assert is_whole  # To show how texts of this length differ takes pytest many minutes.
+    assert is_whole  # pytest would take many minutes to show a difference of texts of this length.
 
 
 def test_output_that_is_closed(folder):

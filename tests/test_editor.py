@@ -1,5 +1,5 @@
-"""tools/editor: the grammars of .rt and .antt files. What reads them here does as TextMate's readers do: the first
-match in a line wins, of two at one place the end of what is open, and then the one that is listed first."""
+"""tools/editor: the grammars of .rt and .antt files. The reader here follows the rules of TextMate. The first match in
+a line wins. Of several at one place it is the end of the open rule, or else the rule that is listed first."""
 
 import json
 import re
@@ -17,7 +17,7 @@ GRAMMARS: dict[str, Rule] = {
 
 
 def expressions(rule: Any) -> Iterator[str]:
-    """Every regular expression of a grammar."""
+    """All regular expressions of a grammar."""
     for key, value in rule.items() if isinstance(rule, dict) else enumerate(rule):
         if key in ("match", "begin", "end"):
             yield value
@@ -26,7 +26,7 @@ def expressions(rule: Any) -> Iterator[str]:
 
 
 def rules(grammar: str, patterns: list[Rule]) -> Iterator[tuple[str, Rule]]:
-    """The rules that such patterns come to, each with its grammar."""
+    """The rules that patterns include, each with its grammar."""
     for pattern in patterns:
         name = pattern.get("include")
         if name is None and "match" not in pattern and "begin" not in pattern:
@@ -40,13 +40,13 @@ def rules(grammar: str, patterns: list[Rule]) -> Iterator[tuple[str, Rule]]:
 
 
 def captured(rule: Rule, found: "re.Match[str]", captures: str) -> list[tuple[str, str]]:
-    """The groups of a match that have names, or else the whole of it."""
+    """The groups of a match that have names, or the whole match if none has."""
     parts = [(found[int(group)], each["name"]) for group, each in rule.get(captures, {}).items()]
     return [part for part in parts if part[0]] or [(found[0], rule.get("name", ""))]
 
 
 class Reader:
-    """Reads a text by a grammar, and knows which rules are open at its end."""
+    """Reads a text by a grammar, and tracks the rules that are open at its end."""
 
     def __init__(self, scope: str, text: str) -> None:
         self.open: list[tuple[str, Rule]] = [(scope, GRAMMARS[scope])]

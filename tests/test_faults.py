@@ -1,5 +1,5 @@
-"""Each allocation, each read and each write failing in turn: the status is that of the fault, what was
-written is a prefix of what the run writes, and no run ends as if nothing had happened."""
+"""Each allocation, each read and each write fails in turn. The status is that of the fault, the output is a prefix of
+the usual one, and no fault is ignored."""
 import json
 import os
 import shutil
@@ -13,7 +13,7 @@ from .program import run
 
 SESSION = b"do on\nuse l1\nsaw on e\ndo off\nuse l1\nsaw off e\nfreeze l1\nexplain\nthaw l1\nreport\n"
 
-# Words, and whether a session comes in.
+# The arguments, and whether a session is on the standard input.
 COMMANDS = {
     "synth": (["synth", "lamp.json"], False),
     "certify": (["certify", "lamp.json"], False),
@@ -30,12 +30,12 @@ SEVERAL = (
     b"do on-a\nuse l1\nsaw on e\njoin l3 lamp off\njoin l4 lamp on loose\nexplain\ndo on-b\nuse l3\nsaw on e\n"
     b"jump l4 off\ndie l2\nreport\n"
 )
-"""A session with a document of version 3, whose parts stand in files of their own."""
+"""A session with a document of version 3 whose parts are in files."""
 
 
 @pytest.fixture(scope="module")
 def folder(tmp_path_factory):
-    """The files that the commands read, and the library that lets calls fail."""
+    """The files that the commands read, and the library that makes calls fail."""
     made = tmp_path_factory.mktemp("faults")
     source = Path(__file__).with_name("failing.c")
     subprocess.run(["cc", "-O1", "-shared", "-fPIC", "-o", made / "failing.so", source, "-ldl"], check=True)
@@ -57,7 +57,7 @@ def folder(tmp_path_factory):
 
 
 class Command:
-    """A command, and how it ends plainly."""
+    """A command, and its end without a fault."""
 
     def __init__(self, name, folder):
         self.name = name
@@ -67,13 +67,13 @@ class Command:
         self.plain = run(self.words, folder, self.session)
 
     def with_fault(self, kind, at, told=""):
-        """How it ends if calls of this kind fail."""
+        """Its end if calls of this kind fail."""
         library, told = os.fspath(self.folder / "failing.so"), os.fspath(told)
         fault = {"LD_PRELOAD": library, "FAIL_KIND": kind, "FAIL_AT": str(at), **({"FAIL_TOLD": told} if told else {})}
         return run(self.words, self.folder, self.session, fault)
 
     def each_fault(self, kind):
-        """How it ends with fault 1, 2, .. until it ends before its fault comes."""
+        """Its ends with fault 1, 2, .. until it ends before the fault."""
         told = self.folder / "told"
         found = []
         while True:
@@ -110,20 +110,20 @@ def test_writes(command):
 
 @pytest.mark.parametrize("bytes_at_once", [1, 7])
 def test_calls_that_move_few_bytes(command, bytes_at_once):
-    """They are no faults: each run ends as it does without."""
+    """They aren't faults: each run ends as it does without them."""
     assert command.plain.text
     assert command.with_fault("short", bytes_at_once) == command.plain
 
 
 def test_calls_that_are_interrupted(command):
-    """They are tried again, or they are faults; nothing is lost unseen."""
+    """They are tried again, or they are faults. No data is lost silently."""
     faults = (program.SHELF_FAULT, program.READ_FAULT, program.WRITE_FAULT)
     plain, ended = command.plain, command.with_fault("interrupted", 0)
     assert ended == plain or ended.status in faults and plain.text.startswith(ended.text)
 
 
 def test_what_is_tried_is_right(command):
-    """The runs that fail here do what they should where nothing fails."""
+    """Without faults, the runs of this module end as they should."""
     shelf = {each.name: each.read_bytes() for each in command.folder.iterdir() if each.suffix != ".so"}
     plain = command.plain
     assert reference.run_fault(command.words, shelf, command.session, plain.status, plain.text) is None

@@ -1,4 +1,4 @@
-"""What the guide and the README show is so."""
+"""The examples and statements of the guide and the README are true."""
 
 import json
 import os
@@ -36,7 +36,7 @@ EDITS: dict[str, tuple[str, dict[str, str]]] = {
     ),
     "tea.json": ("short/house.json", {'"pour", "dim"]': '{"maybe": "pour"}, "dim"]'}),
 }
-"""The documents in which the guide shows mistakes: of each the sample that it is a copy of, and its edits."""
+"""The documents in which the guide shows mistakes. Each is an edited copy of a sample."""
 
 
 def blocks(language: str, page: str = GUIDE) -> list[str]:
@@ -45,14 +45,14 @@ def blocks(language: str, page: str = GUIDE) -> list[str]:
 
 
 def section(title: str) -> str:
-    """A section of the guide, up to the next one of its level or above."""
+    """A section of the guide, up to the next section of the same or a higher level."""
     level = title.split(" ")[0]
     body = GUIDE[GUIDE.index(f"\n{title}\n") + len(title) + 2 :]
     return re.split(rf"^#{{1,{len(level)}}} ", body, maxsplit=1, flags=re.M)[0]
 
 
 def is_part(some: list[Any], whole: list[Any]) -> bool:
-    """Whether these items stand in the other list, in that order."""
+    """Whether these items are in the other list, in this order."""
     rest = iter(whole)
     return all(each in rest for each in some)
 
@@ -63,14 +63,14 @@ def run(*words: str, **options: Any) -> "subprocess.CompletedProcess[str]":
 
 
 def says(*words: str, **options: Any) -> str:
-    """What the program writes."""
+    """The output of the program."""
     done = run(PROGRAM, *words, **options)
     assert (done.returncode, done.stderr) == (0, "")
     return done.stdout
 
 
 def runs(example: str) -> str:
-    """What an example for Python writes."""
+    """The output of an example in Python."""
     path = {**os.environ, "PYTHONPATH": str(TOP / "python" / "src")}
     with tempfile.TemporaryDirectory() as folder:
         words = {'"./roman"': repr(PROGRAM), '"home.db"': repr(f"{folder}/home.db")}
@@ -119,10 +119,10 @@ def test_the_way_to_an_explanation(tmp_path: Path) -> None:
 
 
 def replies_of(sample: str) -> list[tuple[str, str]]:
-    """The lines of a sample's session that get a reply, each with what the program answers to it."""
+    """The lines of a sample's session that have a reply, each with its reply."""
     session = (TOP / "samples" / f"{sample}.session").read_text(encoding="utf-8").splitlines()
     lines = [line for line in session if line and not line.startswith("#")]
-    # Each reply is that by which a longer session goes on, so no form of replies is taken for known.
+    # Only the replies to `report` and `explain` have several lines. The last of these is `end`.
     text = says("run", f"samples/{sample}.json", input="\n".join(lines))
     replies: list[str] = []
     for reply in text.splitlines():
@@ -135,14 +135,14 @@ def replies_of(sample: str) -> list[tuple[str, str]]:
 
 
 def test_the_tables_of_the_workshop() -> None:
-    """The tables follow the session, line by line, and leave some out."""
+    """The tables have lines of the session in their order."""
     rows = re.findall(r"^\| `([^`]+)` \| `([^`]+)` \|", section("### In the workshop"), re.M)
     assert len(rows) > 12
     assert is_part(rows, replies_of("workshop")), rows
 
 
 def test_what_is_said_of_a_sample_s_replies() -> None:
-    """`LINE` is answered `REPLY`, in the text of the samples' sections."""
+    """Statements such as `LINE` is answered `REPLY`, in the text of the samples' sections, are true."""
     count = 0
     for title, sample in (
         ("### In the home", "home"),
@@ -163,7 +163,7 @@ def test_what_is_said_of_a_sample_s_replies() -> None:
 
 
 def is_said(*words: str) -> Callable[[str], None]:
-    """Checks that a block is what the program writes for these words."""
+    """Checks that a block is the output of the program for these words."""
 
     def check(block: str) -> None:
         assert block == says(*words)
@@ -176,7 +176,7 @@ def check_costs(block: str) -> None:
 
 
 def test_each_block_is_tried() -> None:
-    """Each block of the guide is one of those below, and is so."""
+    """Each block of the guide has one of the forms below, and is right."""
     tried: dict[str, Callable[[str], None]] = {
         r"\$ \./roman run samples/(\w+)\.json < samples/\1\.session\n": check_beginning,
         r"\w+ [\w -]+ {3,}\w": check_replies,
@@ -208,7 +208,7 @@ def test_each_block_is_tried() -> None:
 
 
 def check_beginning(block: str) -> None:
-    """The words that run a session, and the first replies."""
+    """The command that runs a session, and the first replies."""
     words, *replies, more = block.splitlines()
     assert more == ".."
     done = run("bash", "-c", words[2:].replace("./roman", PROGRAM))
@@ -216,14 +216,14 @@ def check_beginning(block: str) -> None:
 
 
 def check_replies(block: str) -> None:
-    """Lines with their replies, in the order of the session of one of the samples."""
+    """Lines with their replies, in the order of the session of a sample."""
     rows = [tuple(re.split(r" {2,}", line)) for line in block.splitlines()]
     samples = [file.stem for file in sorted((TOP / "samples").glob("*.session"))]
     assert any(is_part(rows, replies_of(sample)) for sample in samples), rows
 
 
 def check_refusal(block: str) -> None:
-    """A home with a state that isn't there in step 2 of its first behaviour."""
+    """A home with an unknown state in step 2 of its first behaviour."""
     home = json.loads((TOP / "samples" / "home.json").read_text(encoding="utf-8"))
     home["behaviours"][0]["steps"][2][0] = "up"
     with tempfile.TemporaryDirectory() as folder:
@@ -254,14 +254,14 @@ def check_advice(block: str) -> None:
 
 
 def check_words(block: str) -> None:
-    """Words that write nothing where all is right."""
+    """Commands that write nothing if they succeed."""
     done = run("bash", "-o", "pipefail", "-e", "-c", block.replace("./roman", PROGRAM))
     assert (done.returncode, done.stdout, done.stderr) == (0, "", "")
 
 
 def lints(folder: str, words: str) -> "subprocess.CompletedProcess[str]":
-    """Runs words in a folder with a faulty document, as they stand. The tools are in `tools` there, and on
-    PATH, and `./roman` takes a document in the short form."""
+    """Runs a command as it is written, in a folder with a faulty document. The tools are in `tools` there and on PATH,
+    and `./roman` accepts a document in the short form."""
     (name,) = (name for name in EDITS if name in words)
     sample, edits = EDITS[name]
     text = (TOP / "samples" / sample).read_text(encoding="utf-8")
@@ -279,7 +279,7 @@ def lints(folder: str, words: str) -> "subprocess.CompletedProcess[str]":
 
 
 def findings() -> list[tuple[int, int, str, str]]:
-    """Line, column, kind and message of what the linter finds in the faulty home."""
+    """The line, column, kind and message of each finding of the linter in the faulty home."""
     with tempfile.TemporaryDirectory() as folder:
         found = json.loads(lints(folder, "roman-lint --json mine.json").stdout)["findings"]
     assert len(found) == 3
@@ -287,7 +287,7 @@ def findings() -> list[tuple[int, int, str, str]]:
 
 
 def check_findings(block: str) -> None:
-    """The words that call the linter, and what it finds."""
+    """The command that calls the linter, and its findings."""
     words, told = block.split("\n", 1)
     with tempfile.TemporaryDirectory() as folder:
         done = lints(folder, words.removeprefix("$ "))
@@ -295,16 +295,16 @@ def check_findings(block: str) -> None:
 
 
 def check_told(block: str) -> None:
-    """Words, and what they write."""
+    """A command, and its output."""
     words, told = block.split("\n", 1)
-    # The guide names this session in the text before it.
+    # The text before the block names this session.
     words = words.replace("why.session", "<(echo freeze kettle)")
     done = run("bash", "-c", words.removeprefix("$ "))
     assert (done.returncode, done.stdout, done.stderr) == (0, told, "")
 
 
 def check_play(block: str) -> None:
-    """The words that have the faulty plan explained, and what they write."""
+    """The command that explains the faulty plan, and its output."""
     words, told = block.split("\n", 1)
     with tempfile.TemporaryDirectory() as folder:
         done = lints(folder, words.removeprefix("$ "))
@@ -312,7 +312,7 @@ def check_play(block: str) -> None:
 
 
 def check_talk(block: str) -> None:
-    """Lines typed in the workshop, each with what is shown of it."""
+    """Lines that are typed in the workshop, each with its answer."""
     with tempfile.TemporaryDirectory() as folder, test_talk.opened(Path(folder)) as talk:
         for turn in block.removeprefix("> ").rstrip("\n").split("\n> "):
             line, told = turn.split("\n", 1)
@@ -320,7 +320,7 @@ def check_talk(block: str) -> None:
 
 
 def check_vim(block: str) -> None:
-    """Settings with which `:make` lists what the linter finds."""
+    """Settings with which `:make` lists the findings of the linter."""
     with tempfile.TemporaryDirectory() as folder:
         script = f"{block}silent make mine.json\ncall writefile([json_encode(getqflist())], 'list')\nqa!\n"
         (Path(folder) / "script").write_text(script, encoding="utf-8")
@@ -331,7 +331,7 @@ def check_vim(block: str) -> None:
 
 
 def check_task(block: str) -> None:
-    """A task of VS Code, with which it shows what the linter finds. `${file}` is a whole path."""
+    """A task of VS Code that shows the findings of the linter. `${file}` is an absolute path."""
     task = json.loads(block)
     matcher = task["problemMatcher"]
     assert (task["type"], matcher["fileLocation"]) == ("shell", "autoDetect")
@@ -346,7 +346,7 @@ def check_task(block: str) -> None:
 
 
 def check_json(block: str, *samples: str) -> None:
-    """A document, or a piece of one: all of what it says stands in one of the samples."""
+    """A document, or a piece of one. Its content is in one of the samples."""
     folder = TOP / "samples"
     files = [folder / f"{name}.json" for name in samples] or sorted(
         [*folder.glob("*.json"), *folder.glob("short/*.json")]
@@ -385,7 +385,7 @@ def test_the_rejections_of_certificates(tmp_path: Path) -> None:
 
 
 def test_what_fits() -> None:
-    """How many services fit beside a target of 4 states, an environment of 2 and 5 actions."""
+    """The number of services that fit beside a target of 4 states, an environment of 2 states and 5 actions."""
     rows = re.findall(r"^\| (\d) states \| (\d+) \| (\d+) \|$", GUIDE, re.M)
     assert len(rows) == 4
     for states, *counts in rows:
@@ -395,7 +395,7 @@ def test_what_fits() -> None:
 
 
 def test_the_tables_of_statuses() -> None:
-    """The guide and the manual page say the same of each status, and the README of each command that may say no."""
+    """The guide and the manual page state the same statuses. So does the README for the commands with status 1."""
     manual = (TOP / "docs" / "roman.1").read_text(encoding="utf-8")
     manual = manual[manual.index(".Sh EXIT STATUS") : manual.index(".Sh EXAMPLES")]
     pages = {
@@ -442,7 +442,7 @@ def test_links() -> None:
 
 
 def test_the_session_of_the_readme() -> None:
-    """Lines without a mark are typed, and those behind one are replies."""
+    """Lines without a prefix are typed, and those with one are replies."""
     words, shown = re.findall(r"^    \$ \./roman (.+)\n((?:    .+\n)+)", README, re.M)[0]
     lines = [line[4:] for line in shown.splitlines()]
     typed = "".join(f"{line}\n" for line in lines if not line.startswith("> "))

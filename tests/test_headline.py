@@ -1,4 +1,4 @@
-"""docs/HEADLINE.md, which tools/headline writes: it is in step with the sources, and its links lead somewhere."""
+"""docs/HEADLINE.md, which tools/headline writes: it agrees with the sources, and its links lead somewhere."""
 
 import re
 import subprocess

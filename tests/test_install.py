@@ -1,5 +1,5 @@
-"""The commands of the Python side, each in all ways to have them: from a clone, by pip in a virtual environment, by
-./install, and from the Debian package. No network is needed."""
+"""The commands of the Python side, installed in each way: in a clone, by pip in a virtual environment, by ./install,
+and from the Debian package. No network is needed."""
 
 import os
 import re
@@ -45,7 +45,7 @@ def from_clone(clone, folder):
 
 
 def by_pip(clone, folder):
-    """The commands in a virtual environment, where Debian's packages are. Pip doesn't bring the program."""
+    """The commands in a virtual environment, which has Debian's packages. Pip doesn't install the program."""
     done("/usr/bin/python3", "-m", "venv", "--system-site-packages", "--without-pip", folder)
     offline = ("--no-index", "--no-build-isolation", "--no-deps", "--disable-pip-version-check", "--quiet")
     done(folder / "bin/python", "-m", "pip", "install", *offline, clone / "python", cwd=folder)
@@ -59,7 +59,7 @@ def by_install(clone, folder):
 
 
 def by_package(clone, folder):
-    """The package's files, where they aren't owned by the system."""
+    """The package's files, in a folder that the system doesn't own."""
     done(clone / "install", "--deb", folder, cwd=clone)
     (package,) = folder.glob("*.deb")
     done("dpkg-deb", "--extract", package, folder)
@@ -68,7 +68,7 @@ def by_package(clone, folder):
 
 @pytest.fixture(scope="module", params=(from_clone, by_pip, by_install, by_package), ids=lambda way: way.__name__)
 def commands(request, clone, tmp_path_factory):
-    """A call of a command by its name."""
+    """A function that calls a command by its name."""
     folder = tmp_path_factory.mktemp("there")
     place = request.param(clone, folder)
     environment = {"PATH": f"{place}:{place.parent}:/usr/bin:/bin", "HOME": str(folder)}

@@ -1,6 +1,6 @@
-"""libroman: what its files are, that the examples in C, C++, Rust and Python reply as the program does, that
-wrong use is refused by a status, and that no memory is lost. ROMAN_ARCHIVE names the archive of `rt lib`; without
-it the one of this repository is taken, and built first if it is missing or older than a source."""
+"""libroman: its files, its examples in C, C++, Rust and Python, which reply as the program does, the statuses on wrong
+use, and its use of memory. ROMAN_ARCHIVE names the archive of `rt lib`. By default it is that of this repository, which
+is built first if it is missing or older than a source."""
 
 import json
 import os
@@ -53,7 +53,7 @@ pytestmark = pytest.mark.timeout(3600)
 
 @pytest.fixture(scope="module", name="built")
 def fixture_built(tmp_path_factory: pytest.TempPathFactory) -> Path:
-    """The files of the library, laid out as below a prefix."""
+    """The files of the library in a folder, laid out as below a prefix."""
     prefix = tmp_path_factory.mktemp("prefix")
     files = prefix / "files"
     run(LIBRARY / "make", archive(), files)
@@ -70,7 +70,7 @@ def fixture_built(tmp_path_factory: pytest.TempPathFactory) -> Path:
 
 
 def flags(built: Path) -> list[str]:
-    """What pkg-config says."""
+    """The flags that pkg-config prints."""
     environment = {**os.environ, "PKG_CONFIG_PATH": str(built / "lib" / "pkgconfig")}
     return shlex.split(run("pkg-config", "--cflags", "--libs", "roman", env=environment).stdout.decode())
 
@@ -81,7 +81,7 @@ def replies(command: list[Any], sample: str, **options: Any) -> bytes:
 
 
 def is_as_stored(command: list[Any], **options: Any) -> None:
-    """The replies to each sample session are the stored ones of the program, byte for byte."""
+    """The replies to each sample session are the stored replies of the program, byte for byte."""
     for sample in SAMPLES:
         assert replies(command, sample, **options) == (TOP / "samples" / f"{sample}.replies").read_bytes(), sample
 
@@ -130,7 +130,7 @@ def test_the_example_in_c(built: Path, tmp_path: Path) -> None:
     run("cc", "-o", tmp_path / "static", source, f"-I{built}/include", built / "lib" / "libroman.a")
     for name in ("shared", "static"):
         is_as_stored([tmp_path / name])
-    # What the program says of a document that it refuses, and its status.
+    # The program's line for a document that it refuses, and its status.
     said = run(tmp_path / "static", "samples/home.session", cwd=TOP, input=b"", status=3).stdout
     assert said == b"refused samples/home.session notjson system 0 whole 0\n"
 
@@ -202,8 +202,8 @@ def test_every_call_in_every_state_and_each_allocation_failing(built: Path, tmp_
 
 
 def test_reports_and_verdicts_are_those_of_the_program(built: Path, tmp_path: Path) -> None:
-    """The same texts and statuses, of each sample, of its certificate, of one that lacks an entry, and of documents
-    that are refused or past their limit."""
+    """The texts and statuses are the same for each sample, for its certificate, for one that lacks an entry, and for
+    documents that are refused or exceed their limit."""
     shared = built / "lib" / "libroman.so"
     small = json.loads(LAMP.read_text(encoding="utf-8")) | {"limit": 7}
     (tmp_path / "small.json").write_text(json.dumps(small), encoding="utf-8")
@@ -241,8 +241,8 @@ def test_a_million_requests_take_no_more_memory(built: Path, tmp_path: Path) -> 
 
 
 def test_a_minute_of_any_calls(built: Path, tmp_path: Path) -> None:
-    """libFuzzer over documents, part files and calls in any order, from the sample sessions on. An input that it
-    finds at fault stands in the output."""
+    """Runs libFuzzer over documents, part files and calls in any order, beginning with the sample sessions. The output
+    has an input that fails."""
     corpus = tmp_path / "corpus"
     corpus.mkdir()
     part = (TOP / PART).read_bytes()

@@ -1,4 +1,4 @@
-"""The docs' links into the repository: each leads to a file, and one with a line to the words that it names."""
+"""The docs' links into the repository: each leads to a file. One with a line leads to the words that it names."""
 
 import re
 import subprocess
@@ -10,7 +10,7 @@ from . import TOP
 
 LINK = re.compile(r"\]\((?!https?:)([^)#\s]+)")
 LONGEST = 150
-"""How many lines docs/PROOFS.md may have."""
+"""The maximum number of lines of docs/PROOFS.md."""
 
 
 def test_the_lines_are_those_of_the_words() -> None:

@@ -1,4 +1,4 @@
-"""docs/crates.svg, which tools/map draws: its arrows are those of crates.txt, and no more than it takes."""
+"""docs/crates.svg, which tools/map draws: its arrows are those of crates.txt, without redundant ones."""
 
 import subprocess
 import xml.etree.ElementTree as xml

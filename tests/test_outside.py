@@ -1,4 +1,4 @@
-"""What stands around the program: how it ends, ./roman, ./install, the manual page and the completion."""
+"""The surroundings of the program: its statuses, ./roman, ./install, the manual page and the completions."""
 
 import json
 import os
@@ -33,7 +33,7 @@ def run(*words: str, **options: Any) -> Ended:
     return subprocess.run(words, text=True, check=False, **options)
 
 
-# Each status, with what stands on the standard error.
+# Each status, with the standard error.
 
 
 def says(done: Ended, status: int, word: str) -> None:
@@ -60,7 +60,7 @@ def test_statuses_that_say_it_in_the_output(tmp_path: Path) -> None:
 
 
 def test_a_system_past_its_limit(tmp_path: Path) -> None:
-    """Its number of cells is exact, however large: here 4 times a power of 64, which has 59 digits at last."""
+    """Its number of cells is exact, however large. Here it is 4 times a power of 64, with up to 59 digits."""
     lamp = json.loads((TOP / "samples" / "lamp.json").read_text(encoding="utf-8"))
     states = [f"s{number}" for number in range(64)]
     wide = {"name": "wide", "states": states, "start": "s0", "final": states, "steps": []}
@@ -101,7 +101,7 @@ def test_advice_with_too_many_values(tmp_path: Path) -> None:
     ids=lambda words: words[0],
 )
 def test_a_document_in_the_short_form(words: list[str]) -> None:
-    """The program refuses it, and says what to do in the words of the client for Python."""
+    """The program refuses it, and has the same advice as the Python client."""
     done = run(PROGRAM, *words, cwd=TOP, stdin=subprocess.DEVNULL)
     assert (done.returncode, done.stdout) == (3, f"refused {SHORT} form system 0 roman 0\n")
     assert (
@@ -206,7 +206,7 @@ def test_memory_that_is_not_there(tmp_path: Path) -> None:
 
 
 class Tree:
-    """A tree with what ./roman and ./install need, and with or without the program."""
+    """A tree with the files that ./roman and ./install need, with or without the program."""
 
     def __init__(self, folder: Path) -> None:
         self.top = folder / "top"
@@ -234,8 +234,8 @@ class Tree:
         return run(str(self.top / "install"), *words, cwd=self.top, **options)
 
     def toolchain(self) -> dict[str, str]:
-        """An environment with an `rt` that runs the built program as `rt try` does the unproved one: in a new
-        folder, with no files but those that it is given."""
+        """An environment with an `rt` that runs the built program as `rt try` runs the unproved one: in a new folder,
+        which has only the given files."""
         tools = self.top / "tools"
         (tools / "rt").write_text(
             '#!/bin/bash\nset -e\n[ "$1" = try ]\nshift\nfolder=$(mktemp -d)\n'
@@ -285,7 +285,7 @@ def test_a_terminal_before_the_build(tree: Tree) -> None:
 
 
 def test_a_session_from_a_file_before_the_build(tree: Tree) -> None:
-    """It goes on to the unproved run: here there is no toolchain, so that is all that can be seen."""
+    """It reaches the unproved run. Without a toolchain, nothing more can be seen here."""
     empty = tree.top / "empty"
     empty.mkdir()
     (empty / "rt").write_text('#!/bin/sh\necho ran "$@"\n', encoding="utf-8")
@@ -315,7 +315,7 @@ def test_part_files_before_the_build(tree: Tree) -> None:
 
 
 def test_short_documents_before_the_build(tree: Tree) -> None:
-    """All words of the guide that take one."""
+    """All commands of the guide that accept one."""
     guide = (TOP / "docs" / "GUIDE.md").read_text(encoding="utf-8")
     named = re.findall(r"`\./roman (synth samples/short/\w+\.json)`", guide)
     assert "synth samples/short/house.json" in named
@@ -334,7 +334,7 @@ def test_short_documents_after_the_build(built: Tree) -> None:
 
 
 def test_no_composition_at_a_terminal(built: Tree) -> None:
-    """The standard error says the first step of the explanation; away from a terminal it says nothing."""
+    """The standard error has the first step of the explanation. If it isn't a terminal, it is empty."""
     leader, terminal = pty.openpty()
     try:
         done = built.roman("synth", "samples/flaky.json", capture_output=False, stdout=subprocess.PIPE, stderr=terminal)
@@ -363,7 +363,7 @@ def test_sources_that_are_newer(built: Tree) -> None:
     refused(built.roman(*LIVE, input="do on\n"))
 
 
-# ./install, and taking away what it put there.
+# ./install, and the removal of the files that it installed.
 
 PLACES = (
     "bin/roman",
@@ -435,7 +435,7 @@ def test_python_finds_the_client(built: Tree) -> None:
 
 
 def test_the_tools_run_where_they_are_installed(built: Tree) -> None:
-    """They find each other, and the program, though PATH doesn't have them."""
+    """They find each other and the program, although PATH doesn't have them."""
     assert built.install(str(built.prefix)).returncode == 0
     path = {name: value for name, value in os.environ.items() if name != "ROMAN"}
     home = str(TOP / "samples" / "short" / "home.json")
@@ -537,7 +537,7 @@ def test_a_debian_package(built: Tree) -> None:
         "share/fish/vendor_completions.d/roman.fish",
     ):
         assert (root / "usr" / place).is_file(), place
-    # Whoever adds a licence changes what the package says of it.
+    # If a licence is added, the package has to state it.
     said = (root / "usr/share/doc/roman/copyright").read_text(encoding="utf-8")
     assert ("names no licence" in said) == (not [*TOP.glob("LICEN*"), *TOP.glob("COPYING*")])
 
@@ -592,7 +592,7 @@ def test_words_that_are_none(tree: Tree, words: Any) -> None:
 
 
 class Gate:
-    """What `.ci/run` and the tools that it calls say where something is missing."""
+    """The messages of `.ci/run` and of the tools that it calls if something is missing."""
 
     def __init__(self, folder: Path) -> None:
         self.top = folder
@@ -620,7 +620,7 @@ class Gate:
         return run(str(self.top / ".ci/run"), env={**os.environ, "PATH": path, "ROMAN": "/bin/true"})
 
     def last_line_of(self, body: str) -> str:
-        """The last line of the tests of a file with one test in it."""
+        """The last line of the tests of a file with one test."""
         self.stub("program", "exit 0")
         (self.top / "tests/test_one.py").write_text(f"import pytest\n\ndef test():\n    {body}\n", encoding="utf-8")
         return run(
@@ -733,7 +733,7 @@ def test_where_all_tools_are_there_nothing_is_done(gate: Gate) -> None:
     assert (done.returncode, done.stdout, done.stderr) == (0, "", "")
 
 
-# The Python side as pip installs it.
+# The Python side, installed by pip.
 
 
 def test_it_is_installed_from_its_folder(tmp_path: Path) -> None:
@@ -879,7 +879,7 @@ def zsh(line: str, *expected: str) -> None:
 
 
 def wait_for(terminal: int, *expected: str) -> None:
-    """Reads a terminal until these words came."""
+    """Reads a terminal until these words have come."""
     text = ""
     until = time.monotonic() + 400
     while not all(word in text for word in expected):

@@ -1,7 +1,7 @@
-"""The built program against the reference, on runs that Hypothesis draws and makes smaller.
+"""Compares the built program with the reference, on runs that Hypothesis draws and shrinks.
 
-Hypothesis tries a case that failed again at first, but in the gate, which draws the same ones each time. Put it into
-tests/corpus, whose cases are tried each time. To draw for longer:
+Hypothesis first repeats a case that failed before, except in the gate, which draws the same cases each time. Put such a
+case into tests/corpus, whose cases are always tried. To draw for longer:
 /usr/bin/python3 -m pytest tests/test_random.py --hypothesis-profile=soak --timeout=0
 """
 

@@ -1,8 +1,8 @@
 """Each public function serves the program, the C library, a test or a law, or belongs to the public surface.
 
-What is reached is found by names: a call by `.name(` reaches each method of that name, and a path each function that
-it can mean. So nothing calls a function that this module reports, while one that shares its name with another may
-escape."""
+Calls are found by names. A call by `.name(` reaches each method of that name, and a path reaches each function that it
+can mean. So a function that this module reports has no callers, but an unused one may share its name with a used
+one."""
 
 import re
 from collections import defaultdict
@@ -28,7 +28,7 @@ SURFACE = {
     "roman_rank::Ranks::level",
     "roman_relation::Relation::order",
 }
-"""Functions for other programs over these crates: plain forms, and look-ups. `DECISIONS.md` says why each stays."""
+"""Functions for other programs over these crates: plain forms, and look-ups. `DECISIONS.md` has the reason for each."""
 
 
 class Function(NamedTuple):
@@ -40,7 +40,7 @@ class Function(NamedTuple):
     name: str
     is_public: bool
     is_root: bool
-    """Whether something outside calls it: `main`, a C function, a test, a law, or a method of a trait."""
+    """Whether it is called from outside, as `main`, a C function, a test, a law, or a method of a trait."""
     body: str
 
     def __str__(self) -> str:
@@ -65,7 +65,7 @@ def body_of(lines: list[str], right: str) -> str:
 
 
 def functions(crate: str, file: Path) -> Iterator[Function]:
-    """The functions of a file. By its layout a block ends at the first brace that stands as far right as its header."""
+    """The functions of a file. By its layout, a block ends at the first brace that is indented like its header."""
     text = re.sub(r'b?"(?:\\.|[^"\\])*"', '""', re.sub(r"//.*", "", file.read_text(encoding="utf-8")))
     lines = text.splitlines()
     owner, is_trait, end, before = "", False, "", ""

@@ -1,4 +1,4 @@
-"""The README of each crate: it is there, short, and names only what the crate has."""
+"""The README of each crate: it exists, is short, and names only things that the crate has."""
 
 import re
 from pathlib import Path
@@ -11,7 +11,7 @@ CRATES = TOP / "crates"
 WITHOUT = {"roman_examples"}
 """Crates without contracts."""
 LONGEST = 2400
-"""How many characters a README may have: about a screen."""
+"""The maximum length of a README: about a screen."""
 HEADINGS = ["What contracts see", "What is only tested", "Where to begin"]
 WORD = re.compile(r"[A-Za-z_]\w*")
 LIBRARIES = {"serde_json"}
@@ -33,7 +33,7 @@ def words_of(crate: Path) -> set[str]:
 
 
 def unknown(crate: Path) -> list[str]:
-    """What stands between backquotes in a README, and is neither a word nor a file of the crate, nor another crate."""
+    """The texts between backquotes in a README that are neither words nor files of the crate, nor other crates."""
     here = words_of(crate) | listed() | LIBRARIES
     named = re.findall(r"`([^`]+)`", (crate / "README.md").read_text(encoding="utf-8"))
     return [

@@ -1,4 +1,4 @@
-"""The schemas, against the program's own refusals."""
+"""Compares the schemas with the program's refusals."""
 
 import copy
 import json
@@ -21,7 +21,7 @@ NO_NAME = ["", "a b", "é", "x" * 33, "a\n", "a.b"]
 
 
 def schema(name: str) -> Draft202012Validator:
-    """A schema of the repository, which is one."""
+    """A schema of the repository, which is checked to be one."""
     value = json.loads((TOP / "schema" / name).read_text(encoding="utf-8"))
     Draft202012Validator.check_schema(value)
     return Draft202012Validator(value)
@@ -36,7 +36,7 @@ def load(sample: str) -> Any:
 
 
 def set_at(*path: Any) -> Edit:
-    """An edit that puts the last word at the place that the others name."""
+    """An edit that sets the value at the place that the other words name."""
     *way, last, value = path
 
     def edit(document: Any) -> Any:
@@ -102,7 +102,7 @@ def text(part: str, way: tuple[Any, ...], member: str, bad: list[str]) -> Iterat
 
 
 def steps(part: str, way: tuple[Any, ...], step: list[Any]) -> Iterator[Case]:
-    """The refusals of a list of steps, of which that one is right."""
+    """The refusals of a list of steps. `step` is a right one."""
     place = f"{part} steps"
     yield f"missing {place} 0", set_at(*way, "steps", MISSING)
     for value in NO_LIST:
@@ -122,7 +122,7 @@ def steps(part: str, way: tuple[Any, ...], step: list[Any]) -> Iterator[Case]:
 
 
 def guards() -> Iterator[Any]:
-    """Values that are no guards."""
+    """Values that aren't guards."""
     flat: list[Any] = [None, 5, "day", {}, {"day": True}, {"not": True, "all": []}]
     flat += [[5], [["day"]], [None], {"all": True}, {"any": {"not": True}}, {"any": ["day"]}]
     for guard in flat:
@@ -133,7 +133,7 @@ def guards() -> Iterator[Any]:
 
 
 def whole(part: str, way: tuple[Any, ...], missing: bool) -> Iterator[Case]:
-    """The refusals of a part as a whole, and of one by file."""
+    """The refusals of a part as a whole, and of a part in a file."""
     *before, last = way
     if missing:
         yield f"missing {part} whole 0", set_at(*way, MISSING)
@@ -180,7 +180,7 @@ def machine(part: str, way: tuple[Any, ...], step: list[Any], missing: bool) -> 
 
 
 def refusals() -> Iterator[Case]:
-    """Each kind of refusal that the schema can tell, at each place, in the home."""
+    """Each kind of refusal that the schema can find, at each place, in the home."""
     yield from system()
     yield from whole("environment 0", ("environment",), True)
     yield from names("states", "environment 0", ("environment",), "states", 64)
@@ -220,7 +220,7 @@ def several() -> Iterator[Case]:
 
 
 def accepted() -> Iterator[Edit]:
-    """Documents at the edge of what is accepted."""
+    """Documents that are barely accepted."""
     for place in ((), ("environment",), ("behaviours", 0), ("services", 0), ("target",)):
         yield set_at(*place, "note", {"file": 5})
     yield set_at("$schema", "../schema/system.schema.json")
@@ -243,8 +243,8 @@ def accepted() -> Iterator[Edit]:
 
 
 def ask(folder: Path, document: Any) -> tuple[int, str]:
-    """How the program takes a document: its status, and its line where it refuses. Where it doesn't, it
-    has to write a report, or that the system is over its limit."""
+    """The program's status for a document, and its line if it refuses the document. Otherwise it has to write a report,
+    or that the system exceeds its limit."""
     (folder / "s.json").write_text(json.dumps(document), encoding="utf-8")
     done = subprocess.run(
         [PROGRAM, "synth", "s.json"],
@@ -376,7 +376,7 @@ def test_what_is_none() -> None:
 
 
 def part_of(name: str) -> Draft202012Validator:
-    """The schema of a part that stands in a file of its own."""
+    """The schema of a part in a file of its own."""
     return Draft202012Validator({**SYSTEM.schema, **{"$ref": f"#/$defs/{name}"}, **NO_DOCUMENT})
 
 
@@ -387,7 +387,7 @@ def undescribed(value: Any, where: str) -> Iterator[str]:
     """The members that have no description."""
     for name, member in value.get("properties", {}).items():
         if isinstance(member, bool):
-            continue  # It forbids a member in some case, and describes none.
+            continue  # It forbids a member in some cases, and describes none.
         if "description" not in member:
             yield f"{where} {name}"
         yield from undescribed(member, f"{where} {name}")
@@ -401,6 +401,6 @@ def undescribed(value: Any, where: str) -> Iterator[str]:
 def test_they_are_those_of_the_repository() -> None:
     copies = sorted((TOP / "samples").glob("**/schema/*.json"))
     assert {file.name for file in copies} == {file.name for file in (TOP / "schema").glob("*.json")}
-    # The package of the tools has one too, which pip and ./install carry.
+    # The package of the tools has a copy, which pip and ./install install.
     for file in [*copies, TOP / "python" / "src" / "roman_tools" / "short.schema.json"]:
         assert file.read_bytes() == (TOP / "schema" / file.name).read_bytes()

@@ -1,4 +1,4 @@
-"""What holds of the sources as a whole, and no proof says."""
+"""Properties of the sources as a whole that no proof has."""
 
 import re
 from collections import Counter, defaultdict
@@ -28,8 +28,8 @@ LONG_CONTRACT = 350
 WIDEST = 120
 """The most columns of a line of a contract."""
 
-# What readers are sent to, and on how many definitions it rests. Of the headline it is what is promised of sessions and
-# of `synth`, the meaning of documents included.
+# The definitions to which readers are sent, with the number of definitions on which each rests. The headline includes
+# the promises on sessions and on `synth`, and the meaning of documents.
 RESTS_ON: dict[Definition, int] = {
     Definition("roman_model.specs.Composition", "Great"): 23,
     Definition("roman_model.specs.Several", "GreatAll"): 23,
@@ -37,8 +37,8 @@ RESTS_ON: dict[Definition, int] = {
     Definition("roman_top.specs.HeadlineTargets", "FulfilsTargets"): 286,
 }
 
-# The pages of what is computed of a system, and of what a session keeps. Beside the meaning of documents the headline
-# needs none of them, but for the entries of an explanation.
+# The pages on computations and on the state of a session. The headline rests on none of them, except for the meaning of
+# documents and the entries of an explanation.
 NOT_IN_HEADLINE = {
     "roman_model.specs.Arena",
     "roman_model.specs.CompleteLists",
@@ -52,37 +52,37 @@ DOCUMENTS = Definition("roman_library.specs.Documents", "library_of")
 ENTRY = Definition("roman_model.specs.Arena", "Entry")
 
 
-# The engine's word for what one may want to name so. These words mean other things: see the table in CONTRIBUTING.
+# The engine's words for some notions. The words themselves mean other things: see the table in CONTRIBUTING.
 ENGINE_WORDS = {"ask": "probe", "event": "batch", "turn": "attempt", "way": "shift", "run": "stripe"}
 STAYING = {"Keeps", "KeepsAll", "KeepsTheMost"}
-"""The definitions that state that something stays. A text fulfils a promise, and a result obeys a rule."""
+"""The definitions which state that something stays. A text fulfils a promise, and a result obeys a rule."""
 ENGINE = {
     f"roman_{name}"
     for name in ("lanes order rules joint relation generator repair repair_laws rank cert check".split())
 }
 
 PROOFS = {"Answers.antt", "Invariants.antt", "Proof.antt", "Send.antt"}
-"""Pages of a proof by name: the prover looks for their declarations itself."""
+"""Pages of proofs by their names. The prover itself looks for their declarations."""
 
 PROMISES = {"served": "Served", "headline": "HasHeadline", "complete": "AnswersWherePossible", "input": ""}
-"""The public clauses of `serve`, each with the definition that it begins with. None of them asks for anything."""
+"""The public clauses of `serve`, each with the definition with which it begins. None of them has a condition."""
 PAGES = TOP / "tests" / "pages.sha256"
-"""Digests of what each page has of the promises. `tools/pages` renews them."""
+"""Digests of the definitions of each page on which the promises rest. `tools/pages` renews them."""
 
 
 def sources(part: str, ending: str) -> Iterator[Path]:
-    """The files below one part of each crate, as its `specs`, with that ending."""
+    """The files below one part of each crate, such as its `specs`, with an ending."""
     for folder in sorted(CRATES.glob(f"*/{part}")):
         yield from sorted(folder.rglob(f"*{ending}"))
 
 
 def words(text: str) -> Counter:
-    """How often each word stands in a source, comments aside."""
+    """The number of times that each word is in a source, without its comments."""
     return Counter(word for line in text.splitlines() if not re.match(r"\s*--", line) for word in WORD.findall(line))
 
 
 def declarations(page: str, depth: int = 0) -> Iterator[str]:
-    """The declarations of a page or a module, so far to the right, each with the definitions that are local to it."""
+    """The declarations of a page or a module at this indentation, each with the definitions that are local to it."""
     for declaration in re.split(rf"\n\n {{{depth}}}(?! )", page):
         head = MODULE.match(declaration)
         if head:
@@ -91,8 +91,8 @@ def declarations(page: str, depth: int = 0) -> Iterator[str]:
             yield declaration
 
 
-# The clauses of `serve`, those of the outside and the laws, and the definitions that they rest on, change only
-# together with this file or with the digests beside it. So none is weakened unseen.
+# The clauses of `serve`, those of the outside, the laws, and the definitions on which they rest change only together
+# with this file or with the digests beside it. So none is weakened unnoticed.
 
 
 def test_the_clauses_of_serve() -> None:
@@ -170,7 +170,7 @@ def test_pages_take_names_from_elsewhere_by_the_page_of_common_names() -> None:
             for line in page.read_text(encoding="utf-8").splitlines():
                 found = TAKEN.match(line)
                 if found and not found[1].startswith(f"Rattle.{folder.parent.name}.proofs."):
-                    # A name that two pages elsewhere declare can be passed on from one of them only.
+                    # A name that two other pages declare can be passed on from only one of them.
                     direct += [
                         f"{page.relative_to(TOP)}: {name}"
                         for name in found[2].split(", ")
@@ -243,14 +243,14 @@ def test_each_lemma_is_cited() -> None:
         everywhere.update(words(page))
     uncited: list[str] = []
     for file in sources("proofs", ".antt"):
-        # Answers, invariants and whole proofs are named by the prover, and examples are there for themselves.
+        # The prover names answers, invariants and whole proofs, and examples needn't be named.
         if file.name in PROOFS or file.name.endswith("Examples.antt"):
             continue
         for declaration in declarations(pages[file]):
             found = next((m for m in map(LEMMA.match, declaration.splitlines()) if m), None)
             if not found:
                 continue
-            # A lemma that isn't public is cited on its own page, or nowhere.
+            # A lemma that isn't public can be cited only on its own page.
             around = everywhere if found[1] or found[2] else words(pages[file])
             if around[found[3]] == words(declaration)[found[3]]:
                 uncited.append(f"{file.relative_to(TOP)}: {found[3]}")

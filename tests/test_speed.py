@@ -1,9 +1,9 @@
-"""What the program costs on large systems: instructions, as valgrind counts them over each process of a run,
-and memory. tests/speed.json has the last figures reached, with what was written then; `python3 -m tests.speed` prints
-that table anew, and `docs/DESIGN.md` says how the figures came about.
+"""The cost of the program on large systems: its instructions, which valgrind counts over all processes of a run, and
+its memory. tests/speed.json has the last figures, with digests of the outputs. `python3 -m tests.speed` measures
+that table again, and `docs/DESIGN.md` explains the figures.
 
-A figure may grow by a tenth. One that falls below seven tenths of the last is a gain that isn't written down:
-it fails as well, so that it can't be lost again unseen.
+A figure may grow by a tenth. A figure below seven tenths of the last one is an unrecorded gain. It fails, too, so that
+the gain can't be lost unnoticed.
 """
 
 import hashlib
@@ -27,9 +27,9 @@ pytestmark = pytest.mark.alone
 TABLE = TOP / "tests" / "speed.json"
 LIMIT = 16_777_216
 MOST, LEAST = 1.1, 0.7
-"""A figure's bounds, as shares of the last one reached."""
+"""A figure's bounds, as shares of the last figure."""
 SLACK = 1.0
-"""How many megabytes a figure of memory may differ by besides: pages of the C library and of the system come and go."""
+"""The additional megabytes by which a figure of memory may differ: pages of the C library and of the system vary."""
 MEASURED = {
     "workers": ["synth", "certify", "check", "run", "shortest", "resilience"],
     "lamps": ["synth", "certify", "check", "run", "shortest", "talk"],
@@ -40,10 +40,10 @@ MEASURED = {
 }
 """The commands that are measured on each system; `talk` is `run` with many requests."""
 if "ROMAN_MEASURED" in os.environ:
-    # One system and one command alone: the tests of the tests need no more.
+    # Only one system and one command: the tests of the tests need no more.
     MEASURED = {os.environ["ROMAN_MEASURED"].split()[0]: os.environ["ROMAN_MEASURED"].split()[1:]}
 RELATED = {"workers": 12287, "lamps": 19, "cycle": 0}
-"""How many pairs of each system are related: (N + 2) 2^N - 1 of N workers, N + 1 of N lamps."""
+"""The number of related pairs of each system: (N + 2) 2^N - 1 for N workers, and N + 1 for N lamps."""
 
 
 def system(
@@ -65,7 +65,7 @@ def system(
 
 
 def workers() -> dict[str, object]:
-    """Ten workers that wear out, and are mended."""
+    """Ten workers that wear out and are mended."""
     actions = ["start", "stop", "mend", "hold", "go"]
     steps = [
         ("idle", "start", "busy"),
@@ -153,7 +153,7 @@ def cycle() -> dict[str, object]:
 
 @dataclass(frozen=True)
 class Drawn:
-    """What a system is drawn from: its numbers of states and actions, the sizes of its services, and shares."""
+    """The parameters of a random system: its numbers of states and actions, the sizes of its services, and shares."""
 
     seed: int
     wants: int
@@ -168,7 +168,7 @@ class Drawn:
 
 
 def drawn(of: Drawn) -> dict[str, object]:
-    """A system drawn at random. Each service has one of `kinds` behaviours of its size."""
+    """A random system. Each service has one of `kinds` behaviours of its size."""
     rng = random.Random(of.seed)
     envs, actions, wants = (
         [f"{c}{i}" for i in range(n)] for c, n in (("e", of.worlds), ("a", of.acts), ("t", of.wants))
@@ -207,7 +207,7 @@ DRAWN = {
     "wide": Drawn(21, 3, 2, 4, (2, 2, 2, 2, 3, 2, 2, 2, 3, 2, 2, 2, 2, 3), 4, 0.5),
     "guards": Drawn(44, 5, 40, 12, (5, 6, 5, 6), 2, 0.75, guarded=0.4),
 }
-"""Random systems: one in which few rows are left to examine, one of many services, and one of many guards."""
+"""Random systems: one in which few rows are left to examine, one with many services, and one with many guards."""
 
 
 def session(names: list[str], behaviour: str, state: str, action: str) -> str:
@@ -226,7 +226,7 @@ def session(names: list[str], behaviour: str, state: str, action: str) -> str:
 
 @dataclass(frozen=True)
 class Ended:
-    """How a measured run ended."""
+    """The end of a measured run."""
 
     status: int
     text: bytes
@@ -256,7 +256,7 @@ class Bench:
         )
 
     def run(self, by: list[str], words: list[str], found: str = "") -> Ended:
-        """A run by a program that measures, whose figures stand on the standard error."""
+        """A run under a program that measures it. The figures are on the standard error."""
         done = subprocess.run(
             [*by, *words], cwd=self.folder, stdin=subprocess.DEVNULL, capture_output=True, timeout=400, check=False
         )
@@ -270,7 +270,7 @@ class Bench:
         return [PROGRAM, "run" if command == "talk" else command, f"{name}.json", *more.get(command, [])]
 
     def millions(self, name: str, command: str) -> Ended:
-        """Millions of instructions, of the run and of all that it starts."""
+        """Millions of instructions of the run and of all its processes."""
         by = ["valgrind", "--tool=callgrind", "--callgrind-out-file=/dev/null", "--trace-children=yes"]
         ended = self.run(by, self.words(name, command), r"Collected : (\d+)")
         return Ended(ended.status, ended.text, ended.figure / 1e6)
@@ -281,8 +281,8 @@ class Bench:
 
 
 def plain(text: bytes) -> bytes:
-    """An output without what may differ from one right program to another: how many pairs follow from what was
-    known, and the order of a certificate."""
+    """An output without the parts in which right programs may differ: the number of pairs that follow from before, and
+    the order of a certificate."""
     if text.startswith(b"roman-order"):
         return b"%d lines" % text.count(b"\n")
     return re.sub(rb"kept (\d+) added (\d+)", lambda found: b"lost %d" % (int(found[1]) + int(found[2])), text)
@@ -293,7 +293,7 @@ def digest(text: bytes) -> str:
 
 
 Table = dict[str, dict[str, dict[str, Any]]]
-"""Figures by the system and the command."""
+"""The figures by system and command."""
 
 
 def measured(folder: Path) -> Table:
@@ -324,7 +324,7 @@ FIGURES = [
 
 @pytest.fixture(scope="module")
 def folder(tmp_path_factory: pytest.TempPathFactory) -> Path:
-    """The folder with what is measured."""
+    """The folder with the files that are measured."""
     return tmp_path_factory.mktemp("speed")
 
 
@@ -339,7 +339,7 @@ def test_each_figure_is_measured() -> None:
 
 
 def test_what_is_measured_is_right(table: Table, folder: Path) -> None:
-    """The certificates that are checked are right, and each run ends as it did, with what it wrote then."""
+    """The certificates that are checked are right, and each run has the recorded status and output."""
     for name, related in RELATED.items():
         report = subprocess.run([PROGRAM, "synth", f"{name}.json"], cwd=folder, capture_output=True, check=False)
         assert f"\nrelated {related}\n" in report.stdout.decode()

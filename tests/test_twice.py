@@ -14,7 +14,7 @@ TOKEN = re.compile(r"[^\s(){}\[\],;.λ]+|[(){}\[\],;.λ]")
 GROUP = r"[({] (?:[^\s(){}\[\]:]+ )+: "
 BINDER = re.compile(r"[({] ((?:[^\s(){}\[\]:]+ )+): ")
 SHORT = 18
-"""Statements of fewer characters, such as the type of a list, are no lemmas."""
+"""Statements of fewer characters, such as the type of a list, aren't lemmas."""
 
 
 def lemmas(page: str) -> Iterator[tuple[str, str]]:
@@ -29,12 +29,12 @@ def lemmas(page: str) -> Iterator[tuple[str, str]]:
 
 
 def form(statement: str) -> str:
-    """A statement without the names and types of its variables: v0 is the first that stands in it, and so on."""
+    """A statement without the names and types of its variables. v0 is the first one in it, and so on."""
     words = TOKEN.findall(statement)
     names = {name for found in BINDER.findall(" ".join(words)) for name in found.split()}
     for at, word in enumerate(words):
         if word == "λ":
-            # The names that a function binds stand for others within it.
+            # Within a function, the names that it binds mean other variables.
             dot = words.index(".", at)
             depths = accumulate({"(": 1, ")": -1}.get(word, 0) for word in words[dot:])
             end = next((dot + i for i, depth in enumerate(depths) if depth < 0), len(words))

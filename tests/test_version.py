@@ -1,4 +1,4 @@
-"""One version: the changelog, the client, the manual page, the package and the guide name the same."""
+"""The changelog, the client, the manual page, the package and the guide name the same version."""
 
 import re
 import subprocess

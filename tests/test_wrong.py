@@ -1,5 +1,5 @@
-"""Tests of the tests: wrong programs, each a few lines around the built one, and for each the tests that have
-to fail with it. A harmless one passes all of them but those that take long."""
+"""Tests of the tests: wrong programs, each a few lines around the built one, and the tests that have to fail with each.
+A harmless program passes all tests except those that take long."""
 
 from __future__ import annotations
 
@@ -46,7 +46,7 @@ LONG = (RANDOM, SPEED, FAULTS)
 
 @dataclass(frozen=True)
 class Wrong:
-    """A wrong program, as a script or as C, where @ROMAN@ is the built one; and the tests that have to fail."""
+    """A wrong program, and the tests that have to fail. It is a script or C, in which @ROMAN@ is the built program."""
 
     name: str
     text: str
@@ -55,7 +55,7 @@ class Wrong:
     is_static: bool = True
 
     def write(self, folder: Path) -> Path:
-        """Writes the program, and says where it is."""
+        """Writes the program, and returns its path."""
         file = folder / self.name.replace(" ", "_")
         if not self.is_c:
             file.write_text("#!/usr/bin/env bash\n" + self.text.replace("@ROMAN@", PROGRAM), encoding="utf-8")
@@ -63,13 +63,13 @@ class Wrong:
             return file
         source = file.with_suffix(".c")
         source.write_text(self.text.replace("@ROMAN@", PROGRAM), encoding="utf-8")
-        # Mostly linked with no library that a test could put another one before: a fault is for the program alone.
+        # Most are linked statically, so that a test can't preload a library: a fault is only for the built program.
         subprocess.run(["cc", "-O1", *(["-static"] if self.is_static else []), "-o", file, source], check=True)
         return file
 
 
 def ends_well(*statuses: int) -> str:
-    """A program in C that ends with 0 where the right one ends with one of these statuses."""
+    """A program in C that ends with 0 if the right one ends with one of these statuses."""
     wrong = " || ".join(f"ended == {status}" for status in statuses)
     return f"""#include <sys/wait.h>
 #include <unistd.h>
@@ -95,7 +95,7 @@ int main(int count, char **words)
     return 127 + 0 * count;
 }
 """
-"""A program in C that has 64 MB before it becomes the right one."""
+"""A program in C that takes 64 MB before it becomes the right one."""
 
 ONE_WRITE = """#include <stdlib.h>
 #include <sys/wait.h>
@@ -123,8 +123,8 @@ int main(int count, char **words)
     return WEXITSTATUS(status);
 }
 """
-"""A program in C that writes all that the right one writes by one call, however many bytes that call took, and that
-takes a read that is interrupted for the last."""
+"""A program in C that writes the whole output of the right one by one call, whatever that call returns, and takes an
+interrupted read for the last one."""
 
 RUN = '"@ROMAN@" "$@"'
 """Runs the right program."""
@@ -316,7 +316,7 @@ HARMLESS = Wrong(
 
 
 def failed(program: Path, test: str) -> tuple[bool, str]:
-    """Whether a test fails with a program, and what it says."""
+    """Whether a test fails with a program, and its output."""
     environment = {**os.environ, "ROMAN": str(program), "ROMAN_MEASURED": "lamps synth"}
     words = [str(TOP / SAMPLES)]
     if test != SAMPLES:
