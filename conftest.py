@@ -1,5 +1,8 @@
-"""What all tests share: how many cases Hypothesis draws (for a run, for hours, and until a wrong program is found out;
-the gate draws the same ones each time), how a test's output is passed on, and how a test that is a coroutine runs."""
+"""The common configuration of all tests: the profiles of Hypothesis, the output of tests, and tests that are
+coroutines.
+
+Hypothesis draws cases for a run, for hours, or until a wrong program is found. The gate draws the same ones each time.
+"""
 
 import asyncio
 import inspect
@@ -19,7 +22,7 @@ settings.load_profile("tests")
 
 @pytest.hookimpl(hookwrapper=True)
 def pytest_runtest_makereport() -> Generator[None, Any, None]:
-    """Escapes what a test wrote. Some write lone surrogates, which a process of pytest can't send to another one."""
+    """Escapes the output of a test. It may have single surrogates, which a process of pytest can't send to another."""
     outcome = yield
     report = outcome.get_result()
     report.sections = [(name, text.encode("utf-8", "backslashreplace").decode()) for name, text in report.sections]
@@ -27,7 +30,7 @@ def pytest_runtest_makereport() -> Generator[None, Any, None]:
 
 @pytest.fixture
 def at_end() -> Generator[AsyncExitStack, None, None]:
-    """What is called at the end of a test, and in its event loop if it has one."""
+    """Functions that are called at the end of a test, in its event loop if it has one."""
     stack = AsyncExitStack()
     yield stack
     asyncio.run(stack.aclose())

@@ -1,4 +1,4 @@
-"""The form of the packages, of all tests and of the examples: types, names that nothing uses, and layout."""
+"""The style of the packages, of all tests and of the examples: types, unused names, and layout."""
 
 import subprocess
 import sys

@@ -15,6 +15,6 @@ def sample(name: str) -> str:
 
 
 def copy_store(store: "str | os.PathLike[str]", copy: "str | os.PathLike[str]") -> None:
-    """Copies a store that is open, as it would be found after a kill."""
+    """Copies a store that is open. The copy is like the store after a kill."""
     with contextlib.closing(sqlite3.connect(store)) as one, contextlib.closing(sqlite3.connect(copy)) as other:
         one.backup(other)

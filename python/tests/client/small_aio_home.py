@@ -20,17 +20,17 @@ from .small_home import DOCUMENT, Manner, Program, Run, Universe
 from .virtual_time import run
 
 DEADLINE = 10.0
-"""How many seconds a device may take."""
+"""The number of seconds that a device may take."""
 
 ON_ITS_WAY = 1.0
-"""How many seconds a call takes to a device, and its answer back."""
+"""The number of seconds that a call takes to a device, and its answer back."""
 
 TRIES = 50
-"""How often a person tries the same again, each time a second later."""
+"""The number of times that a person tries a step, each time a second later."""
 
 
 class Disk(Store):
-    """A store in a universe. If it is slow, its commits are for a thread."""
+    """A store in a universe. If it is slow, a thread makes its commits."""
 
     def __init__(self, home: AioRun, stored: Stored | None, slow: bool) -> None:
         self.path = "the disk"  # type: ignore[assignment]
@@ -93,7 +93,7 @@ class Device(aio.Device):
         self._manner = manner
 
     async def serve(self, call: Call) -> Outcome:
-        # One that is mute can't refuse what comes when it is back.
+        # A mute device can't refuse calls that reach it when it is back.
         self._home.coming = call if self._manner.tells == "tells" else None
         try:
             await asyncio.sleep(ON_ITS_WAY)
@@ -113,9 +113,9 @@ class Device(aio.Device):
 
 @dataclass
 class AioRun(Run):
-    """A home that goes on in a universe, by the dispatcher for asyncio. `left` has what an end before each round of the
-    loop would leave behind. In the rounds `cancels` an open step is cancelled. With `delays` each request is made by a
-    person of its own, so many seconds after the start, and the changes by another one."""
+    """A home that continues in a universe, by the dispatcher for asyncio. `left` has the universes that an end before
+    each round of the loop would leave. In the rounds `cancels`, an open step is cancelled. With `delays`, a person of
+    its own makes each request, so many seconds after the start, and another person makes the changes."""
 
     cancels: frozenset[int] = frozenset()
     slow: bool = False
@@ -139,7 +139,7 @@ class AioRun(Run):
         run(self.live(), self.each_round)
 
     def each_round(self) -> None:
-        """Notes what an end would leave behind now, and cancels an open step."""
+        """Stores the universe that an end would leave now, and cancels an open step."""
         self.rounds += 1
         self.left.append(self.universe)
         if self.coming is not None:
@@ -156,7 +156,7 @@ class AioRun(Run):
         others = [number for number in range(len(self.script)) if number not in requests]
         delayed = [self.take_all([number], delay) for number, delay in zip(requests, self.delays)]
         await asyncio.gather(self.take_all(others, 0.0), *delayed)
-        self.arrive()  # What was on its way comes.
+        self.arrive()  # Calls that were on their way arrive.
         await self.dispatcher._in_turn(_nothing)
         await self.return_failed()
 
@@ -171,7 +171,7 @@ class AioRun(Run):
                 )
 
     async def take_surely(self, step: str) -> str:
-        """Takes a step, again if it was cancelled."""
+        """Takes a step, and repeats it if it was cancelled."""
         while True:
             task = asyncio.ensure_future(self.take_step(step))
             self.steps.append(task)
@@ -183,7 +183,7 @@ class AioRun(Run):
                 self.steps.remove(task)
 
     async def take_step(self, step: str) -> str:
-        """Takes a step, again if that may help. Gives what is told."""
+        """Takes a step, and repeats it if that may help. Returns the answer."""
         word, _, rest = step.partition(" ")
         for _ in range(TRIES):
             try:
@@ -206,14 +206,14 @@ class AioRun(Run):
         raise AssertionError(f"{step} comes to no end")
 
     async def return_failed(self) -> None:
-        """Thaws what isn't frozen by hand, in the state that its device tells."""
+        """Thaws the services that aren't frozen by hand, in the states of their devices."""
         for service in self.manners:
             async with self.thawing:  # It may be frozen by hand meanwhile.
                 if service in self.core.failed:
                     await self.dispatcher.thaw(service, self.universe.devices[service].state)
 
     def act(self, call: Call) -> tuple[bool, str]:
-        """What a device does when a call has come. Gives whether its answer is late, and its state."""
+        """Carries out a call that has reached a device. Returns whether its answer is late, and its state."""
         manner, clock = self.manners[call.service], self.universe.devices[call.service]
         clock = replace(clock, asked=clock.asked + 1)
         failed, late = clock.asked <= manner.fails, clock.asked <= manner.late
@@ -226,7 +226,7 @@ class AioRun(Run):
 
 
 def lived(manners: Mapping[str, Manner], universe: Universe, script: tuple[str, ...], **words: Any) -> AioRun:
-    """A home that has gone on to its end in a universe, and is as it should be."""
+    """Runs a home in a universe to its end, and checks it."""
     home = AioRun(universe, manners, script, **words)
     home.go()
     home.check()

@@ -1,8 +1,8 @@
-"""A small home without input and output: the program, the store and two devices are played here.
+"""A small home without input and output: this module simulates the program, the store and two devices.
 
-Whatever outlasts the end of a home is a `Universe`: what is on the disk, what the devices did, and how far the person
-is who makes the requests. `run` lets a home go on in a universe until it is done, and gives the universes that it
-would leave behind if it were ended before or after each of its effects.
+A `Universe` has the state that outlasts a home: the content of the disk, the calls that the devices did, and the
+progress of the person who makes the requests. A `Run` continues a home in a universe until it is done. It collects the
+universes that the home would leave if it ended before or after each of its effects.
 """
 
 from __future__ import annotations
@@ -62,8 +62,9 @@ OTHER = {"a": "b", "b": "a"}
 
 @dataclass(frozen=True)
 class Manner:
-    """How a device behaves. One that `tells` knows of a call whether it did it, one that is `plain` only its state, and
-    one that is `mute` nothing. It `fails` at its first calls, or is `late` at them, though it did them or not."""
+    """The behaviour of a device. A device that `tells` knows whether it did a call. One that is `plain` knows only its
+    state, and one that is `mute` knows nothing. It `fails` at its first calls, or is `late` at them. If it `acts_late`,
+    it carries out the late calls."""
 
     tells: str = "tells"
     fails: int = 0
@@ -74,14 +75,14 @@ class Manner:
 
     @property
     def refuses(self) -> bool:
-        """Whether a call that comes late does no harm: the device knows its number."""
+        """Whether a late call does no harm, because the device knows its number."""
         return self.tells == "tells" or self.repeatable
 
 
 @dataclass(frozen=True)
 class Clock:
-    """A device: its state, the calls that it did with their keys, those that it refuses since it said that it didn't do
-    them, and those that are still on their way to it."""
+    """A device: its state, the calls that it did with their keys, and those that are on their way to it. It refuses
+    calls after it has answered that it didn't do them."""
 
     state: str = "a"
     done: tuple[tuple[int, str | None], ...] = ()
@@ -90,13 +91,13 @@ class Clock:
     asked: int = 0
 
     def act(self, call: Call) -> Clock:
-        """The device after a call has reached it. It does no call twice."""
+        """The device after a call has reached it. It never does a call twice."""
         if call.number in self.refused or call.number in dict(self.done):
             return self
         return replace(self, state=OTHER[self.state], done=(*self.done, (call.number, call.key)))
 
     def arrive(self) -> Clock:
-        """The device after all that was on its way has come."""
+        """The device after all calls on their way have reached it."""
         clock = replace(self, coming=())
         for call in self.coming:
             clock = clock.act(call)
@@ -105,7 +106,7 @@ class Clock:
 
 @dataclass(frozen=True)
 class Universe:
-    """What outlasts a home. `step` is how many of the person's steps are acknowledged."""
+    """The state that outlasts a home. `step` is the number of the person's steps that are acknowledged."""
 
     disk: Stored | None
     clocks: tuple[tuple[str, Clock], ...]
@@ -118,11 +119,11 @@ class Universe:
         return dict(self.clocks)
 
     def with_device(self, service: str, clock: Clock) -> Universe:
-        """The universe with a device as it is then."""
+        """The universe with another state of a device."""
         return replace(self, clocks=tuple((name, clock if name == service else each) for name, each in self.clocks))
 
     def identity(self) -> Any:
-        """What tells one universe from another."""
+        """The parts by which universes are distinguished."""
         disk = self.disk
         stored = None
         if disk is not None:
@@ -141,7 +142,7 @@ class Universe:
 
 
 class Program:
-    """The program, as far as this home needs it: each service that isn't frozen can serve."""
+    """The parts of the program that this home needs. Each service that isn't frozen can serve."""
 
     def __init__(self) -> None:
         self.states: dict[str, str] = {}
@@ -150,13 +151,13 @@ class Program:
         self.service: str | None = None
 
     def restore(self, document: Document, request: str | None, service: str | None) -> None:
-        """Goes on from there."""
+        """Continues from a snapshot."""
         self.states = {each.name: each.state for each in document.services}
         self.frozen = {each.name for each in document.services if each.frozen}
         self.open, self.service = request, service
 
     def tell(self, words: tuple[str, ...]) -> Any:
-        """The value of the reply to a line."""
+        """Returns the value of the reply to a line."""
         word, *rest = words
         return getattr(self, f"_{word}")(*rest)
 
@@ -211,7 +212,7 @@ class Program:
 
 
 class Disk:
-    """The store of a home that runs, as its core sees it."""
+    """The store of a running home, with the attributes that its core reads."""
 
     path = "the disk"
     journal = None
@@ -222,7 +223,7 @@ class Disk:
 
 @dataclass
 class Device:
-    """What the core looks at of a device."""
+    """The attributes of a device that the core reads."""
 
     timeout: float | None
     repeatable: bool
@@ -231,8 +232,7 @@ class Device:
 
 @dataclass
 class Faults:
-    """What goes wrong in a run: the program ends at an effect, before or after it has done that, or the disk is full
-    there."""
+    """A fault of a run: at an effect, the program ends before or after it has performed it, or the disk is full."""
 
     at: int = -1
     kind: str = ""
@@ -240,7 +240,7 @@ class Faults:
 
 @dataclass
 class Run:
-    """A home that goes on in a universe."""
+    """A home that continues in a universe."""
 
     universe: Universe
     manners: Mapping[str, Manner]
@@ -256,7 +256,7 @@ class Run:
         self.core: Dispatching[Device] = Dispatching(devices, False, Disk(self.universe.disk))  # type: ignore[arg-type]
 
     def go(self) -> None:
-        """Goes on until all steps of the script are acknowledged, and all devices are back."""
+        """Continues until all steps of the script are acknowledged, and all devices are back."""
         self.begin()
         self.take_rest()
 
@@ -271,11 +271,11 @@ class Run:
         self.return_all()
 
     def begin(self) -> None:
-        """Begins, or goes on from the store."""
+        """Begins, or continues from the store."""
         self.perform(self.core.turn(lambda: self.core.begin(DOCUMENT)))
 
     def take(self, step: str) -> str:
-        """Takes a step of the person, who tries again until it succeeds. Gives what is told."""
+        """Takes a step of the person, who repeats it until it succeeds. Returns the answer."""
         word, _, rest = step.partition(" ")
         for _ in range(8):
             try:
@@ -287,10 +287,10 @@ class Run:
                 if word == "freeze":
                     self.perform(self.core.turn(lambda: self.core.event(protocol.freeze(rest))))
                 else:
-                    self.thaw(rest)  # The person looks where it is.
+                    self.thaw(rest)  # The person looks at the device.
                 return "changed"
             except (AlreadyFrozen, NotFrozen):
-                return "changed"  # It was done before the home ended.
+                return "changed"  # The change was made before the home ended.
             except InDoubt:
                 return "in doubt"
             except NoComposition:
@@ -300,7 +300,7 @@ class Run:
         raise AssertionError(f"{step} comes to no end")
 
     def take_both(self, *keys: str) -> list[str]:
-        """Requests that follow each other at once. Gives what is told when all are acknowledged."""
+        """Makes requests that follow each other at once. Returns the answers when all are acknowledged."""
         told: dict[str, str] = {}
 
         def settle(key: str, done: Done | None, error: BaseException | None) -> None:
@@ -325,12 +325,12 @@ class Run:
         return [told[key] for key in keys]
 
     def return_all(self) -> None:
-        """Thaws what isn't frozen by hand, in the state that its device tells."""
+        """Thaws the services that aren't frozen by hand, in the states of their devices."""
         for service in sorted(self.core.failed):
             self.thaw(service)
 
     def thaw(self, service: str) -> None:
-        """Thaws a service in the state that its device has, again if the disk is full."""
+        """Thaws a service in the state of its device, and repeats this if the disk is full."""
         state = self.universe.devices[service].state
         for _ in range(3):
             with contextlib.suppress(StoreFailed, NotFrozen):
@@ -338,14 +338,14 @@ class Run:
                 return
 
     def arrive(self) -> None:
-        """What was on its way to a device comes to it."""
+        """Lets the calls on their way reach their devices."""
         for name, clock in self.universe.clocks:
             self.universe = self.universe.with_device(name, clock.arrive())
 
     # Effects.
 
     def perform(self, steps: protocol.Steps[Any]) -> Any:
-        """Takes the steps one by one. Notes what each would leave behind, if it were the last one."""
+        """Performs the effects one by one. Stores the universe that each would leave if it were the last one."""
         try:
             effect = next(steps)
             while True:
@@ -362,7 +362,7 @@ class Run:
             return end.value
 
     def cut_before(self, effect: Effect) -> Iterator[Universe]:
-        """The universes that an end just before an effect leaves. What a device was asked may be on its way."""
+        """The universes that an end just before an effect leaves. A call of a device may be on its way."""
         yield self.universe
         if isinstance(effect, Serve) and self.manners[effect.call.service].refuses:
             clock = self.universe.devices[effect.call.service]
@@ -370,7 +370,7 @@ class Run:
             yield self.universe.with_device(effect.call.service, coming)
 
     def one(self, effect: Effect) -> Any:
-        """Does one effect, or has it go wrong."""
+        """Performs one effect, or its fault."""
         self.effects += 1
         kind = self.faults.kind if self.effects == self.faults.at else ""
         if isinstance(effect, (Tell, Restore)):
@@ -400,7 +400,7 @@ class Run:
         return None
 
     def talk(self, effect: Tell[Any] | Restore) -> Any:
-        """What the program does."""
+        """Performs an effect of the program."""
         if isinstance(effect, Tell):
             if not self.program.states:
                 raise ProgramEnded(-9, (), ())
@@ -410,7 +410,7 @@ class Run:
         return None
 
     def commit(self, effect: Commit) -> None:
-        """What the store does, in one transaction."""
+        """Performs a commit of the store, in one transaction."""
         stored = self.universe.disk
         assert stored is not None
         for entry in effect.entries:
@@ -426,7 +426,7 @@ class Run:
         self.universe = replace(self.universe, disk=replace(stored, position=effect.position))
 
     def serve(self, call: Call) -> Any:
-        """What a device does when it is asked."""
+        """Performs a call of a device."""
         manner, clock = self.manners[call.service], self.universe.devices[call.service]
         clock = replace(clock, asked=clock.asked + 1)
         if clock.asked <= manner.fails:
@@ -441,7 +441,7 @@ class Run:
         return clock.state, "e"
 
     def ask(self, call: Call) -> Any:
-        """What a device tells of a call."""
+        """The answer of a device about a call."""
         manner, clock = self.manners[call.service], self.universe.devices[call.service]
         if manner.tells == "mute":
             return None
@@ -453,10 +453,10 @@ class Run:
         self.universe = self.universe.with_device(call.service, refused)
         return NOT_DONE
 
-    # What holds at the end.
+    # Checks at the end.
 
     def check(self) -> None:
-        """Raises AssertionError if something is wrong when the run is done."""
+        """Raises AssertionError if a property fails when the run is done."""
         position: Position = self.core.position
         acted = [key for clock in self.universe.devices.values() for _, key in clock.done]
         late = any(each.late and not each.late_is_doubt for each in self.manners.values())
@@ -481,7 +481,7 @@ class Run:
         assert disk is not None and disk.under_way is None and disk.position == position
 
     def is_held(self, service: str) -> bool:
-        """Whether the person has frozen a service, and not thawed it."""
+        """Whether the person has frozen a service, and hasn't thawed it."""
         steps = [step.split()[0] for step in self.script if step.endswith(f" {service}")]
         return steps[-1:] == ["freeze"]
 

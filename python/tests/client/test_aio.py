@@ -1,4 +1,4 @@
-"""The same calls for asyncio."""
+"""Sessions and dispatchers for asyncio."""
 
 import asyncio
 import inspect
@@ -31,7 +31,7 @@ REQUIRED = inspect.Parameter.empty
 
 
 async def works(action: str) -> States:
-    """A lamp that does as it is told."""
+    """A lamp that carries out each action."""
     return action, "e"
 
 
@@ -46,7 +46,7 @@ async def test_a_reply_that_comes_at_once_isnt_awaited(monkeypatch: pytest.Monke
 
 
 async def test_a_reply_that_comes_later_is_awaited() -> None:
-    """Other calls take their turn after it."""
+    """Other calls have their turns after it."""
     async with home() as session:
         os.kill(session.pid, signal.SIGSTOP)
         told = session._told(protocol.do("brighten"))
@@ -74,8 +74,8 @@ def lamp(**words: Any) -> aio.Session:
 
 @asynccontextmanager
 async def played(code: str, timeout: float | None = None) -> AsyncIterator[aio.Session]:
-    """A session with a program in Python that reads the first line and writes a first report. It has all the
-    time that it needs for that."""
+    """A session with a program in Python that reads the first line and writes a first report. The deadline doesn't
+    apply to this."""
     async with aio.Session("system", program=[sys.executable, "-c", BEGIN + code]) as session:
         assert isinstance(session._streams, streams.Streams)
         session._streams._timeout = timeout
@@ -257,7 +257,7 @@ async def test_a_call_that_is_cancelled() -> None:
 
 
 async def test_a_call_that_is_cancelled_twice() -> None:
-    """Its reply is still to come, and isn't taken for that of the next call."""
+    """Its reply comes later, and isn't taken for that of the next call."""
     async with lamp() as session:
         assert isinstance(session._streams, streams.Streams)
         os.kill(session.pid, signal.SIGSTOP)
@@ -424,7 +424,8 @@ async def test_a_store(tmp_path: Path) -> None:
 
 
 async def test_texts_that_can_not_be_encoded(tmp_path: Path) -> None:
-    """A key is refused before it is written. In a source, and in the error of a device, it is a question mark."""
+    """A key is refused before it is written. In a source or an error of a device, the surrogate becomes a question
+    mark."""
     half = "half \ud800"
 
     async def broken_so(action: str) -> States:
@@ -475,8 +476,8 @@ async def test_what_was_under_way(tmp_path: Path) -> None:
 
 
 async def test_a_cancelled_request_while_the_journal_is_written() -> None:
-    """Wherever it is cut off, the next request goes on from what the journal says. Only where its device
-    was asked it may be in doubt; then it is settled by hand."""
+    """Wherever it is cut off, the next request continues from the journal. The request may be in doubt only if its
+    device was asked. A person then settles it."""
     asked: list[str] = []
 
     async def is_asked(action: str) -> States:
@@ -516,7 +517,7 @@ def is_on(session: aio.Session) -> Callable[[roman.Call], Awaitable[roman.Outcom
     return state
 
 
-# The two drivers stand as twins, since a call that is awaited can't be written with one that isn't.
+# The two drivers are twins: awaited calls can't share code with the other ones.
 
 
 def test_both_have_the_same_calls_with_the_same_words() -> None:
@@ -527,7 +528,7 @@ def test_both_have_the_same_calls_with_the_same_words() -> None:
     for one, other in twins:
         found = calls(other)
         assert found.pop("begin") == [("self", inspect.Parameter.POSITIONAL_OR_KEYWORD, REQUIRED)]
-        found.pop("core", None)  # What it knows is there from when it has begun.
+        found.pop("core", None)  # This is available only after it has begun.
         assert calls(one) == found
 
 
@@ -540,7 +541,7 @@ def test_what_is_awaited() -> None:
 
 
 def calls(kind: type) -> dict[str, Any]:
-    """The public names of a class, with the words of those that are called."""
+    """The public names of a class, with the parameters of its methods."""
     found: dict[str, Any] = {}
     for name, value in vars(kind).items():
         if name == "__init__" or not name.startswith("_"):

@@ -1,4 +1,4 @@
-"""Dispatchers over the program, with devices that are played here."""
+"""Dispatchers with the program and simulated devices."""
 
 import json
 import logging
@@ -27,11 +27,11 @@ from . import PROGRAM, TOP, sample
 States = tuple[str, str]
 
 PATIENCE = 120.0
-"""How many seconds are waited for what has to come: the machine may be very busy."""
+"""The number of seconds to wait for an event that has to come. The machine may be very busy."""
 
 
 def lamps(count: int) -> Session:
-    """A session with the sample lamp, and some more of its kind."""
+    """A session with several sample lamps."""
     session = Session(sample("lamp.json"), program=PROGRAM, timeout=60)
     for number in range(2, count + 1):
         session.join(f"l{number}", "lamp", "off")
@@ -39,7 +39,7 @@ def lamps(count: int) -> Session:
 
 
 def works(action: str) -> States:
-    """A lamp that does as it is told."""
+    """A lamp that carries out each action."""
     return action, "e"
 
 
@@ -248,7 +248,7 @@ def test_a_change_that_waits_hides_no_result() -> None:
         assert changes[0].result(0) is None
 
 
-# Devices that hang, programs that die, services that were frozen, and changes that come meanwhile.
+# Devices that hang, programs that die, services that were frozen, and changes during a request.
 
 
 def test_a_device_has_a_deadline() -> None:
@@ -297,7 +297,7 @@ def test_a_late_answer_is_nobody_elses() -> None:
             done = dispatcher.request(action)
             assert done.service == "l2"
         assert begun.wait(PATIENCE)
-        assert len(answers) == 1  # It isn't asked again before it has come to its end.
+        assert len(answers) == 1  # It isn't asked again before its call has ended.
         answers[0].put(("on", "e"))
         for action in ("off", "on") * 50:
             if len(answers) > 1:
@@ -459,7 +459,7 @@ def test_changes_that_come_meanwhile_wait_their_turn() -> None:
 
 
 def test_changes_of_a_device_itself() -> None:
-    """They come before the next attempt at the request, or behind it."""
+    """They are made before the next attempt at the request, or after the request."""
     told: list[Any] = []
 
     def moves(action: str) -> States:
@@ -529,7 +529,7 @@ def test_an_interrupted_policy() -> None:
 
 
 def test_several_targets() -> None:
-    """A device is asked for the plain action; a function is told which target asks."""
+    """A device is asked for the plain action. A function receives the request, which names the target."""
     asked: list[roman.Call] = []
 
     class Lamp(roman.Device):
@@ -558,7 +558,7 @@ def test_a_session_that_goes_on_meanwhile() -> None:
 
 
 def run_with(*words: str) -> "subprocess.CompletedProcess[str]":
-    """Runs it at the top of the repository, from where the samples name their part files."""
+    """Runs it at the top of the repository, to which the names of the samples' part files are relative."""
     script = str(TOP / "python" / "examples" / "demonstration.py")
     return subprocess.run(
         [sys.executable, script, "--program", PROGRAM, *words],

@@ -1,4 +1,4 @@
-"""Documents: reading and writing them, looking things up, and other starting states."""
+"""Documents: reading and writing, look-ups, and other starting states."""
 
 import json
 import os
@@ -136,7 +136,7 @@ def test_what_is_no_document(tmp_path: Path) -> None:
 
 
 def test_a_part_that_is_as_deep_as_may_be(tmp_path: Path) -> None:
-    """In its place it is deeper than a file may be, so it is written to a file again."""
+    """In the document it is nested deeper than a file may be, so it is written to a file again."""
     system = json.loads(Path(sample("lamp.json")).read_text(encoding="utf-8"))
     (part,) = system["behaviours"]
     file = tmp_path / "part.json"
@@ -162,7 +162,7 @@ def test_nesting() -> None:
 
 
 def test_a_document_with_the_states_of_a_report() -> None:
-    """The program's first report on it is the report, byte for byte, whatever happened before."""
+    """The program's first report on it is the same report, byte for byte, after any events."""
     chance = random.Random(5)
     for name in SYSTEMS:
         with Session(f"samples/{name}.json", program=PROGRAM, folder=TOP, timeout=60) as session:
@@ -239,7 +239,7 @@ def test_a_document_is_not_written_in_part(tmp_path: Path) -> None:
 
 
 def happens(session: Session, document: Document, chance: random.Random) -> None:
-    """Something that changes the states: a request, a change, a jump."""
+    """Changes the states at random: by a request, a change or a jump."""
     report = session.report()
     services = report.services
     kind = chance.randrange(6)

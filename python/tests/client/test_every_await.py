@@ -1,5 +1,5 @@
-"""The dispatcher for asyncio in virtual time: the home is ended, and its requests are cancelled, between any two
-awaits. Nothing is done twice, lost or believed wrongly."""
+"""The dispatcher for asyncio in virtual time. The home is ended, and its requests are cancelled, between any two
+awaits. No action is carried out twice, no request is lost, and no state is wrong."""
 
 from __future__ import annotations
 
@@ -14,11 +14,11 @@ from .small_home import Manner, Universe, beginning
 from .test_every_point import HELD, HOMES, MANNERS, REQUESTS
 
 ENDS = int(os.environ.get("ROMAN_AIO_ENDS", "2"))
-"""How often a home is ended."""
+"""The number of times that a home is ended."""
 
 
 def after(universes: list[Universe], seen: set[object]) -> list[Universe]:
-    """Those that weren't seen yet."""
+    """The universes that are new."""
     found = []
     for each in universes:
         if (identity := each.identity()) not in seen:
@@ -28,7 +28,7 @@ def after(universes: list[Universe], seen: set[object]) -> list[Universe]:
 
 
 def explore(manners: dict[str, Manner], script: tuple[str, ...], ends: int, slow: bool) -> int:
-    """Lets a home go on from all universes that so many ends leave. Gives how many runs there were."""
+    """Continues a home from all universes that so many ends leave. Returns the number of runs."""
     seen: set[object] = set()
     universes, runs = after([beginning(manners)], seen), 0
     for _ in range(ends + 1):
@@ -51,7 +51,7 @@ def test_a_home_that_is_ended(home: str, script: tuple[str, ...], slow: bool) ->
 @pytest.mark.parametrize("slow", [False, True], ids=["at once", "in a thread"])
 @pytest.mark.parametrize("home", HOMES)
 def test_a_request_that_is_cancelled(home: str, slow: bool) -> None:
-    """In each round of the loop, and then the home is ended in each round after that."""
+    """It is cancelled in each round of the loop, and the home is ended in each round after that."""
     manners = dict(zip(("t1", "t2"), HOMES[home]))
     plain = lived(manners, beginning(manners), REQUESTS, slow=slow)
     seen: set[object] = set()

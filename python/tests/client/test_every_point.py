@@ -1,5 +1,5 @@
-"""A small home that is ended at every point, again and again, and goes on: nothing is done twice, lost or believed
-wrongly."""
+"""A small home is ended at every point, repeatedly, and continues. No action is carried out twice, no request is lost,
+and no state is wrong."""
 
 from __future__ import annotations
 
@@ -18,7 +18,7 @@ REQUESTS = ("request one", "freeze t1", "request two", "thaw t1", "request three
 HELD = ("request one", "freeze t1", "freeze t2", "thaw t2", "request two", "request three")
 
 BOTH = ("both one two", "freeze t1", "both three four", "thaw t1")
-"""Requests that follow each other at once: the end of one is written with the call of the next one."""
+"""Requests that follow each other at once. The end of one is written with the call of the next one."""
 
 HOMES = {
     "two that tell": (Manner(), Manner()),
@@ -33,11 +33,12 @@ HOMES = {
 }
 
 ENDS = int(os.environ.get("ROMAN_ENDS", "3"))
-"""How often a home is ended. Each more makes some fifty times as many runs, of which most leave nothing new."""
+"""The number of times that a home is ended. Each further one makes some fifty times as many runs, most of which leave
+no new universe."""
 
 
 def explore(manners: dict[str, Manner], script: tuple[str, ...], ends: int) -> int:
-    """Lets a home go on from all universes that so many ends leave. Gives how many runs there were."""
+    """Continues a home from all universes that so many ends leave. Returns the number of runs."""
     universes = [beginning(manners)]
     seen = {universes[0].identity()}
     runs = 0
@@ -69,7 +70,7 @@ def test_a_home_that_is_ended(home: str, script: tuple[str, ...]) -> None:
 @pytest.mark.parametrize("kind", ["ended before", "ended after", "full"])
 @pytest.mark.parametrize("home", HOMES)
 def test_a_home_whose_program_ends_or_whose_disk_is_full(home: str, kind: str, script: tuple[str, ...]) -> None:
-    """At each effect, and then the home is ended at each effect after that."""
+    """This occurs at each effect, and the home is ended at each effect after that."""
     manners = dict(zip(("t1", "t2"), HOMES[home]))
     plain = Run(beginning(manners), manners, script)
     plain.go()
@@ -95,7 +96,7 @@ MANNERS = st.builds(
 
 
 class Lives(RuleBasedStateMachine):
-    """A home with random devices, that is asked, frozen and thawed, and is ended at random effects."""
+    """A home with random devices that gets requests, freezes and thaws, and is ended at random effects."""
 
     @initialize(one=MANNERS, other=MANNERS)
     def begin(self, one: Manner, other: Manner) -> None:
@@ -104,13 +105,13 @@ class Lives(RuleBasedStateMachine):
         self.live_on(beginning(self.manners))
 
     def live_on(self, universe: Universe) -> None:
-        """Another home begins, and takes the steps that aren't acknowledged."""
+        """Begins another home, which takes the steps that aren't acknowledged."""
         self.run = Run(universe, self.manners, tuple(self.script))
         self.run.go()
         self.run.check()
 
     def step(self, step: str, fault: Faults, cut: float) -> None:
-        """Takes a step, with a fault at one of its effects. The home is ended at one of them, if `cut` is below 1."""
+        """Takes a step, with a fault at one of its effects. If `cut` is below 1, the home is ended at one of them."""
         self.script.append(step)
         self.run.script = tuple(self.script)
         self.run.left.clear()
@@ -120,7 +121,7 @@ class Lives(RuleBasedStateMachine):
         while cut < 1 and self.run.left:
             left = self.run.left[int(cut * len(self.run.left))]
             self.live_on(left)
-            cut = 10 * cut % 1 if cut > 0.5 else 1.0  # Sometimes twice, and more often.
+            cut = 10 * cut % 1 if cut > 0.5 else 1.0  # Sometimes it is ended twice, or more often.
 
     faults = st.builds(Faults, st.integers(1, 15), st.sampled_from(("", "", "ended before", "ended after", "full")))
     cuts = st.floats(0, 2)
@@ -133,7 +134,7 @@ class Lives(RuleBasedStateMachine):
     def change(self, word: str, service: str, fault: Faults, cut: float) -> None:
         other = "t2" if service == "t1" else "t1"
         if word == "freeze" and self.run.is_held(other):
-            return  # One is left to serve.
+            return  # One service has to be left.
         self.step(f"{word} {service}", fault, cut)
 
 

@@ -23,7 +23,7 @@ PYTHON = TOP / "python"
 
 
 def kill_children(parent: int) -> int:
-    """Kills the programs that a process runs, and says how many there were."""
+    """Kills the programs that a process runs, and returns their number."""
     try:
         children = Path(f"/proc/{parent}/task/{parent}/children").read_text(encoding="ascii")
     except OSError:
@@ -35,7 +35,7 @@ def kill_children(parent: int) -> int:
 
 
 class Kills:
-    """Whatever is killed, and when: each request is served once, in its turn, and none is lost."""
+    """Runs of dispatchers that are killed. Each request has to be served once, in its order, and none may be lost."""
 
     def __init__(self, folder: Path) -> None:
         self.folder = folder
@@ -76,8 +76,8 @@ class Kills:
         assert (running.returncode, errors) == (0, "")
 
     def kill_often(self, kills: int, chance: random.Random) -> tuple[int, list[int]]:
-        """Kills the dispatcher so often, each time after some more requests and a moment. There are more to
-        serve whenever it has served them all. Gives how many there are, and how many it had served at each kill."""
+        """Kills the dispatcher so often, each time after some more requests and a moment. It gets more requests when it
+        has served all. Returns the number of requests, and the number that was served at each kill."""
         count, reached = 150, []
         for _ in range(kills):
             running = self.start(count)
@@ -110,7 +110,7 @@ def test_the_dispatcher(kills: Kills) -> None:
 
 
 def test_the_program(kills: Kills) -> None:
-    """More than ten kills, however few of them a busy machine lets into so many requests."""
+    """More than ten kills succeed, even if a busy machine allows few of them during so many requests."""
     chance = random.Random(12)
     killed = count = 0
     while killed <= 10:

@@ -1,6 +1,6 @@
-"""The tests of sessions once more, within this process, by libroman in the place of a program behind pipes.
+"""The tests of sessions, repeated within this process by libroman, in place of a program behind pipes.
 
-ROMAN_LIBRARY names the shared library; without it `./build --library` makes it, unless it is there."""
+ROMAN_LIBRARY names the shared library. Without it, `./build --library` makes the library if it is missing."""
 
 import os
 import subprocess
@@ -22,7 +22,7 @@ pytestmark = pytest.mark.timeout(3600)
 
 
 class Within(roman_client.Session):
-    """A session within this process, whatever the program is."""
+    """A session within this process, for any program."""
 
     def __init__(self, *words: Any, **options: Any) -> None:
         options["library"] = LIBRARY
@@ -47,11 +47,11 @@ def fixture_within() -> Any:
 
 
 NOT_WITHIN = {
-    # A session within a process never has to go on in a new program.
+    # A session within a process never has to continue in a new program.
     "test_a_session_goes_on_before_it_is_too_long",
     "test_a_session_of_more_than_16_megabytes",
     "test_no_place_for_the_next_program_yet",
-    # Its program moves the document away.
+    # Its program moves the document.
     "test_a_document_that_is_not_to_be_read_from_here",
     # There is no program to kill.
     "test_a_program_that_is_killed",

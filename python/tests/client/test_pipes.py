@@ -1,4 +1,4 @@
-"""What a session makes of programs that die, hang, flood their output or talk nonsense."""
+"""Sessions with programs that die, hang, flood their output or write nonsense."""
 
 import ctypes
 import os
@@ -22,7 +22,7 @@ OPENING = (
 
 
 LONG = 600
-"""How many seconds a program of these tests hangs."""
+"""The number of seconds for which a program of these tests hangs."""
 
 BEGIN = f"""
 import os, sys, time
@@ -36,7 +36,7 @@ say("{OPENING}")
 
 
 def session(code: str, timeout: float | None = None) -> Session:
-    """A session with a program that begins so. It has all the time that it needs for its first report."""
+    """A session with a program that begins with BEGIN. The deadline doesn't apply to its first report."""
     talk = Session("system", program=[sys.executable, "-c", BEGIN + code])
     assert isinstance(talk._pipes, pipes.Pipes)
     talk._pipes._timeout = timeout
@@ -45,14 +45,14 @@ def session(code: str, timeout: float | None = None) -> Session:
 
 @pytest.fixture(autouse=True)
 def bounded() -> Iterator[None]:
-    """No call waits for a program that hangs, be the machine ever so busy."""
+    """Checks that no call waits for a program that hangs, even on a very busy machine."""
     begun = time.monotonic()
     yield
     assert time.monotonic() - begun < LONG / 2
 
 
 def ended(code: str, status: int) -> roman.ProgramEnded:
-    """The error of a call of which the program ends with a status."""
+    """The error of a call during which the program ends with a status."""
     with session(code) as talk, pytest.raises(roman.ProgramEnded) as caught:
         talk.do("on")
     assert caught.value.status == status
@@ -210,7 +210,7 @@ def test_a_slow_last_reply() -> None:
 
 
 class Answering(threading.Thread):
-    """A thread that requests something from a session."""
+    """A thread that requests an action from a session."""
 
     def __init__(self, talk: Session) -> None:
         super().__init__(daemon=True)
@@ -237,7 +237,7 @@ def test_the_end_of_a_session_interrupts_a_call_of_another_thread() -> None:
 
 
 class SlowLibrary:
-    """A library whose answer to a request takes its time."""
+    """A library whose answer to a request takes some time."""
 
     def __init__(self) -> None:
         self.done: list[str] = []
@@ -262,7 +262,7 @@ class SlowLibrary:
 
 
 def test_the_end_of_a_session_waits_for_an_answer_of_the_library() -> None:
-    """The library must not lose the session while it answers."""
+    """The session mustn't be closed while the library answers."""
     slow = SlowLibrary()
     with mock.patch.object(library, "load_library", return_value=slow):
         talk = Session("system", library=True)

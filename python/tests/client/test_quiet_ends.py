@@ -1,4 +1,4 @@
-"""Whatever ends, and whenever: asyncio has no error to report that nobody looked at."""
+"""Sessions and devices that end at any time. asyncio never reports an error that was never retrieved."""
 
 from __future__ import annotations
 
@@ -24,7 +24,7 @@ from .test_pipes import BEGIN, LONG
 
 
 def reports(work: Callable[[], Coroutine[Any, Any, None]], quiet: bool = True) -> list[str]:
-    """What asyncio reports of a program, up to its end. A message of a log would keep its error, so there are none."""
+    """The reports of asyncio on a program, up to its end. Log messages are off, because they would keep the errors."""
     found: list[str] = []
     logging.disable(logging.CRITICAL if quiet else logging.NOTSET)
 

@@ -167,7 +167,7 @@ def test_calls_of_several_threads_take_turns() -> None:
     assert reports == [session.opening] * 200
 
 
-# Sessions that go on in another program.
+# Sessions that continue in another program.
 
 
 def test_a_snapshot() -> None:
@@ -219,7 +219,7 @@ def test_what_is_no_snapshot(tmp_path: Path) -> None:
 
 
 def test_a_session_goes_on_before_it_is_too_long() -> None:
-    """With little room for each program, in any phase of a request, nothing is to be seen of it."""
+    """With little room for each program, callers notice nothing, in any phase of a request."""
     outcomes = {"brighten": ("on", "day"), "dim": ("off", "day")}
     pids = set()
     with Session(sample("lamp.json"), program=PROGRAM, timeout=60, longest=1000) as plain, Session(
@@ -267,7 +267,7 @@ def test_a_session_of_more_than_16_megabytes() -> None:
 
 
 def test_no_place_for_the_next_program_yet() -> None:
-    """Between two requests a session tries to go on early, and does so later where it can't yet."""
+    """Between two requests a session tries to continue early. If it can't yet, it continues later."""
     with Session(sample("lamp.json"), program=PROGRAM, longest=400) as session:
         first = session.pid
         with mock.patch("tempfile.mkdtemp", side_effect=OSError(28, "no space")):
@@ -279,7 +279,7 @@ def test_no_place_for_the_next_program_yet() -> None:
 
 
 def test_a_document_that_is_not_to_be_read_from_here() -> None:
-    """A program that runs elsewhere: the session works, and says why it can't go on in another one."""
+    """If the program runs elsewhere, the session works, and logs why it can't continue in another program."""
     move = f'import os, sys; os.execv({PROGRAM!r}, ["roman", "run", {sample("lamp.json")!r}])'
     with Session("elsewhere.json", program=[sys.executable, "-c", move]) as session:
         assert session.do("on").services == ("l1",)
@@ -288,7 +288,7 @@ def test_a_document_that_is_not_to_be_read_from_here() -> None:
 
 
 def test_a_document_in_the_short_form() -> None:
-    """One line says what to do, unless the program expands it, as ./roman does."""
+    """One line explains what to do, unless the program expands it, as ./roman does."""
     name = sample("short/house.json")
     said = f"{name} is in the short form; roman-expand {name} -o plain.json writes the plain one"
     with pytest.raises(roman.ShortForm) as raised:

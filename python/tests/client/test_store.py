@@ -1,4 +1,4 @@
-"""The store of a dispatcher: what it goes on from, wherever it was cut off."""
+"""The store of a dispatcher: the position from which it continues, wherever it was cut off."""
 
 from __future__ import annotations
 
@@ -34,7 +34,7 @@ JOURNALS = Path(__file__).parent / "journals"
 
 
 class Home(Device):
-    """A service of the home. `told` is what it tells of a call, and `broken` how it fails."""
+    """A service of the home. `told` is its answer about a call, and `broken` its error."""
 
     def __init__(self, told: Told | BaseException = None, repeatable: bool = False) -> None:
         self.told = told
@@ -81,7 +81,7 @@ class Stores:
             return database.execute(query).fetchall()
 
     def cut_off(self, action: str, *before: str) -> Path:
-        """A store as it is while a device is at work."""
+        """A copy of a store while a device is at work."""
         copy = self.folder / "copy"
         with self.dispatcher() as dispatcher:
             for each in before:
@@ -97,7 +97,7 @@ def stores(tmp_path: Path) -> Stores:
     return Stores(tmp_path)
 
 
-# What it goes on from.
+# The position from which it continues.
 
 
 def test_it_goes_on(stores: Stores) -> None:
@@ -120,7 +120,7 @@ def test_it_goes_on(stores: Stores) -> None:
 
 
 def test_a_service_that_joined_again(stores: Stores) -> None:
-    """It has its device after the program ended, and after a start; the services keep their order."""
+    """It has its device after the program has ended, and after a restart. The services keep their order."""
     with stores.dispatcher() as dispatcher:
         dispatcher.die("window")
         dispatcher.join("window", "blind", "ajar", stores.devices["window"])
@@ -156,13 +156,13 @@ def test_each_commit_is_synced(stores: Stores) -> None:
 
 
 def log_of(store: Path) -> bytes:
-    """What a store has written, and not yet moved into its database."""
+    """The content that a store has written, but not yet moved into its database."""
     log = Path(f"{store}-wal")
     return log.read_bytes() if log.exists() else b""
 
 
 class Watched(Store):
-    """A store that keeps a copy, as it is after each commit."""
+    """A store that copies itself after each commit."""
 
     copies: list[tuple[Path, Path]]
 
@@ -183,8 +183,8 @@ class Watched(Store):
 
 
 def play(stores: Stores) -> tuple[list[tuple[int, Any]], list[tuple[Path, Path]]]:
-    """Requests, failures and changes. Gives where all stood between two of them, with how many commits there were, and
-    the copies of all commits."""
+    """Makes requests, failures and changes. Returns the states between two of them, each with the number of commits,
+    and the copies after all commits."""
     stands: list[tuple[int, Any]] = []
     with mock.patch("roman_client.dispatcher.Store", Watched), stores.dispatcher() as dispatcher:
         copies = dispatcher._store.copies  # type: ignore[union-attr]
@@ -212,7 +212,7 @@ def play(stores: Stores) -> tuple[list[tuple[int, Any]], list[tuple[Path, Path]]
 
 
 def test_wherever_it_is_cut_off(stores: Stores) -> None:
-    """After each commit, and in the middle of each, it goes on from a commit."""
+    """It continues from a commit, both after each commit and in the middle of each."""
     stands, copies = play(stores)
     told = dict(stands)
     previous = None
@@ -338,7 +338,7 @@ def test_failures_are_kept_with_a_key(stores: Stores) -> None:
         assert (failure.service, failure.text) == ("window", "answered 'nonsense', which can't be")
 
 
-# Frozen, and why.
+# Frozen services, and their causes.
 
 
 def test_why_a_service_is_frozen(stores: Stores) -> None:
@@ -350,7 +350,7 @@ def test_why_a_service_is_frozen(stores: Stores) -> None:
     with stores.dispatcher() as dispatcher:
         assert dispatcher.failed == {"window"}
         assert dispatcher.core.position.frozen(Frozen.BY_HAND) == {"kettle"}
-        repair = dispatcher.freeze("window")  # From now on it isn't asked whether it is back.
+        repair = dispatcher.freeze("window")  # After this it isn't asked whether it is back.
         report = dispatcher.report()
         assert repair.lost == report.pairs - report.related
         assert dispatcher.failed == frozenset()
@@ -363,7 +363,7 @@ def test_why_a_service_is_frozen(stores: Stores) -> None:
 
 
 def test_a_freeze_and_its_cause_are_one_commit(stores: Stores) -> None:
-    """Whichever commit is the last one, a service is frozen by hand exactly if it is frozen."""
+    """After each commit, a service is frozen by hand exactly if it is frozen."""
     with mock.patch("roman_client.dispatcher.Store", Watched), stores.dispatcher() as dispatcher:
         copies = dispatcher._store.copies  # type: ignore[union-attr]
         for _ in range(2):
@@ -391,7 +391,7 @@ def test_two_on_one_store(stores: Stores) -> None:
 
 @pytest.mark.parametrize("gone", ["store", "store.lock"])
 def test_a_store_that_is_removed_while_it_is_in_use(stores: Stores, gone: str) -> None:
-    """Another dispatcher may begin then. The first one asks no device any more."""
+    """Another dispatcher may begin then. The first one no longer asks a device."""
     with stores.dispatcher() as first:
         for file in stores.folder.glob(f"{gone}*"):
             file.unlink()
@@ -459,7 +459,7 @@ def test_a_store_that_can_not_be_made(stores: Stores) -> None:
 
 @pytest.mark.parametrize("ends_at", ["connect", "link", "rename"])
 def test_a_beginning_that_is_cut_off(stores: Stores, ends_at: str) -> None:
-    """Until the store is whole there is none, and what was begun is no hindrance."""
+    """The store exists only when it is complete, and an incomplete one isn't in the way."""
     where = "sqlite3.connect" if ends_at == "connect" else f"os.{ends_at}"
     shutil.copy(JOURNALS / "home.journal", stores.path)
     stores.devices["lamp2"] = Home()
@@ -470,7 +470,7 @@ def test_a_beginning_that_is_cut_off(stores: Stores, ends_at: str) -> None:
         assert dispatcher.served == 4
 
 
-# What was under way.
+# The call that was under way.
 
 
 def recovered(
@@ -523,7 +523,7 @@ def test_it_was_not_done(stores: Stores, told: Any) -> None:
         ("gone", "day"),
         ("open",),
         roman.DeviceFailed("no answer"),
-        Did(("shut", "day")),  # It did it, and was moved since then.
+        Did(("shut", "day")),  # The device did the call, and has moved since.
         Did(("gone", "day")),
     ],
 )
@@ -551,7 +551,7 @@ def test_it_is_repeated_and_makes_no_sense(stores: Stores) -> None:
 
 
 def test_failures_before_it_are_not_lost(stores: Stores) -> None:
-    """The first device has failed when the second one is at work: its failure is told with the request."""
+    """The first device fails before the second one is at work. The result of the request has this failure."""
     stores.devices["window"].answer = roman.DeviceFailed("stuck")
     copy = stores.folder / "copy"
     with stores.dispatcher() as dispatcher:
@@ -580,7 +580,8 @@ def workshop(store: Path, device: Device) -> Iterator[Dispatcher]:
 
 
 def test_a_state_that_says_nothing(stores: Stores) -> None:
-    """A state that the action may leave as it is tells nothing of whether it was done, unless the device says so."""
+    """If the action may leave the state as it is, the state doesn't show whether the action was carried out, unless the
+    device knows."""
     copy = stores.folder / "copy"
 
     def arm(action: str) -> Outcome:
@@ -623,7 +624,7 @@ def test_a_doubt_is_settled(stores: Stores) -> None:
 @pytest.mark.parametrize("commit", [1, 2])
 @pytest.mark.parametrize("written", [False, True])
 def test_an_interrupt_while_it_is_written(stores: Stores, commit: int, written: bool) -> None:
-    """A KeyboardInterrupt at a commit, which is written or isn't: the next call puts it right."""
+    """A KeyboardInterrupt occurs at a commit, before or after it is written. The next call repairs the session."""
     commits: list[int] = []
     plain = Store.commit
 
@@ -699,7 +700,7 @@ def test_a_device_that_says_that_it_failed_is_not_late(stores: Stores, error: Ba
 
 @contextlib.contextmanager
 def full(stores: Stores, commits: int) -> Iterator[None]:
-    """After so many commits no file may grow any more."""
+    """After so many commits, no file can grow."""
     before = resource.getrlimit(resource.RLIMIT_FSIZE)
     left = commits
     plain = Store.commit
@@ -719,7 +720,7 @@ def full(stores: Stores, commits: int) -> Iterator[None]:
 
 
 async def test_a_slow_disk_is_awaited_in_a_thread(stores: Stores) -> None:
-    """The thread ends the commit, and does nothing else. If this fails, the entries are written with the next ones."""
+    """The thread only ends the commit. If this fails, the entries are written with the next ones."""
     threads: list[tuple[str, bool]] = []
     broken: list[bool] = []
 
@@ -770,7 +771,7 @@ def test_a_full_disk_after_the_device_answered(stores: Stores) -> None:
         assert done is not None
         assert (done.target, dispatcher.served) == ("bright", 1)
         copy_store(stores.path, cut)
-        for action, key in (("boil", None), ("brighten", "a")):  # Not even what is known is told.
+        for action, key in (("boil", None), ("brighten", "a")):  # Even a known answer isn't returned.
             with full(stores, 0), pytest.raises(roman.StoreFailed):
                 dispatcher.request(action, key=key)
         assert stores.devices["kettle"].calls == []
@@ -851,7 +852,7 @@ def test_an_interrupt_while_the_disk_is_full(stores: Stores) -> None:
         assert dispatcher.request("brighten").service == "ceiling"
 
 
-# A journal of the form before.
+# A journal of the older form.
 
 
 def test_a_journal_is_taken_over_once(stores: Stores, caplog: pytest.LogCaptureFixture) -> None:
@@ -889,7 +890,7 @@ def test_a_journal_with_a_call_under_way(stores: Stores, told: Any, verdict: Ver
 
 @pytest.mark.parametrize("held", [[], ["lamp2"], ["window"]])
 def test_what_a_home_stored_beside_its_journal(stores: Stores, held: list[str]) -> None:
-    """A service is frozen by hand if it is frozen, and was noted as such."""
+    """A service is frozen by hand if it is frozen, and was recorded as frozen by hand."""
     shutil.copy(JOURNALS / "home.journal", stores.path)
     beside = Path(f"{stores.path}.live")
     beside.write_text(f'{{"first": 1234, "held": {str(held).replace(chr(39), chr(34))}}}', encoding="utf-8")
@@ -904,7 +905,7 @@ def test_what_a_home_stored_beside_its_journal(stores: Stores, held: list[str]) 
 @pytest.mark.parametrize("tear", [lambda last: last[:-5], lambda last: b"", lambda last: last + b"\0" * 512])
 @pytest.mark.parametrize("zeros", [False, True])
 def test_a_journal_whose_last_line_is_torn(stores: Stores, tear: Callable[[bytes], bytes], zeros: bool) -> None:
-    """Its pages may come to the disk in any order, so that zeros or garbage stand before what is whole."""
+    """Its pages may reach the disk in any order, so zeros or garbage may precede complete lines."""
     *lines, last = (JOURNALS / "under-way.journal").read_bytes().splitlines(keepends=True)
     torn = tear(last)
     if zeros:
@@ -935,7 +936,7 @@ def test_a_journal_that_is_broken_before_its_end(stores: Stores) -> None:
 
 
 def test_a_device_that_hangs_has_one_thread(stores: Stores) -> None:
-    """Though it is taken back before each request, and hangs again."""
+    """It is taken back before each request, and hangs again."""
     hangs = threading.Event()
     stores.devices["window"].timeout = 0.02
     stores.devices["window"].before = lambda call: hangs.wait()

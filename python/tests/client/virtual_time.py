@@ -1,4 +1,4 @@
-"""A loop of asyncio whose time doesn't pass by itself: if nothing is ready, it jumps to what comes next."""
+"""An event loop of asyncio in virtual time: if nothing is ready, the time jumps to the next event."""
 
 from __future__ import annotations
 
@@ -10,11 +10,11 @@ from typing import Any, TypeVar
 Value = TypeVar("Value")
 
 WRITE = 0.001
-"""How many seconds the work of a thread takes."""
+"""The number of seconds that the work of a thread takes."""
 
 
 class Jumping(selectors.DefaultSelector):
-    """A selector that doesn't wait: it tells how long it would have waited."""
+    """A selector that doesn't wait, but records how long it would have waited."""
 
     def __init__(self) -> None:
         super().__init__()
@@ -29,7 +29,7 @@ class Jumping(selectors.DefaultSelector):
 
 
 class VirtualLoop(asyncio.SelectorEventLoop):
-    """The loop. `each` is called before each of its rounds, so between any two awaits. What is for a thread is done in
+    """The loop. `each` is called before each of its rounds, so between any two awaits. The work of threads is done in
     the loop a little later."""
 
     def __init__(self, each: Callable[[], None]) -> None:

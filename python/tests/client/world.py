@@ -1,7 +1,7 @@
-"""Devices that go on when a dispatcher is killed: a server that plays the services of a document.
+"""Devices that continue when a dispatcher is killed: a server that simulates the services of a document.
 
-It plays each call once, whoever asks for it again, and keeps what it did. Called as a program, this module is
-a dispatcher over these devices, for a test to kill.
+It carries out each call once, even if it is asked again, and records the calls. Run as a program, this module is a
+dispatcher over these devices, which a test can kill.
 """
 
 import json
@@ -27,7 +27,7 @@ from roman_client.devices import Outcome, Told
 
 
 class World:
-    """What the services did, and where they are."""
+    """The calls that the services carried out, and their states."""
 
     def __init__(self, document: Document, seed: int, failing: float) -> None:
         self.document = document
@@ -42,7 +42,7 @@ class World:
         self.wrong: list[str] = []
 
     def answer(self, asked: dict[str, Any]) -> Any:
-        """The answer to a call: an outcome, or None where the service fails."""
+        """The answer to a call: an outcome, or None if the service fails."""
         with self.lock:
             number, service, action = asked["number"], asked["service"], asked["action"]
             if asked["what"] == "state":
@@ -76,7 +76,7 @@ class Server(socketserver.ThreadingUnixStreamServer):
 
 
 class Handler(socketserver.StreamRequestHandler):
-    """One call."""
+    """Handles one call."""
 
     def handle(self) -> None:
         assert isinstance(self.server, Server)
@@ -120,7 +120,7 @@ class Remote(Device):
 
 
 def begun(system: str, program: str, folder: str) -> tuple[Session, Dispatcher]:
-    """A dispatcher over the devices. Where the program is killed before there is one, it is begun again."""
+    """A dispatcher over the devices. If the program is killed before it begins, it is started again."""
     while True:
         try:
             session = Session(system, program=program, timeout=60)
@@ -135,7 +135,7 @@ def begun(system: str, program: str, folder: str) -> tuple[Session, Dispatcher]:
 
 
 def main(system: str, program: str, folder: str, count: int) -> None:
-    """Has so many requests served."""
+    """Makes requests until so many are served."""
     session, dispatcher = begun(system, program, folder)
     document = session.core.document
     assert document is not None

@@ -1,5 +1,5 @@
-"""Tests of roman-live. They run the program that ROMAN names, or ./roman, a mosquitto of their own, and real
-devices on free ports of 127.0.0.1."""
+"""Tests of roman-live. They run the program that ROMAN names, or ./roman, and a mosquitto of their own. Real devices
+use free ports of 127.0.0.1."""
 
 import os
 from pathlib import Path

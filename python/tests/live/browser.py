@@ -1,4 +1,4 @@
-"""A home with its page, and a browser that looks at it."""
+"""A home with its page, and a browser that shows it."""
 
 from __future__ import annotations
 
@@ -22,11 +22,11 @@ from . import DEMO, PROGRAM, ROMAN_LIVE
 from .machinery import PATIENCE, free_port, until
 
 STARTS = 3
-"""How often a browser is started that doesn't come up in its own time."""
+"""The number of times that a browser is started if it doesn't come up in time."""
 
 
 def wait_until(holds: Callable[[], Any], what: str) -> Any:
-    """Waits until something is so on a page, or at a server, either of which may not be there yet."""
+    """Waits until a condition holds on a page or at a server. Both may still be missing."""
     return until(holds, what, (OSError, NoSuchElementException, StaleElementReferenceException))
 
 
@@ -51,7 +51,7 @@ class Running:
         wait_until(self.answers, f"the page of {words}")
 
     def answers(self) -> bool:
-        """Whether somebody is there: one who refuses is."""
+        """Whether the server answers. A refusal is an answer, too."""
         assert self._process is not None and self._process.poll() is None
         try:
             urllib.request.urlopen(f"{self.url}/", timeout=PATIENCE).close()
@@ -60,7 +60,7 @@ class Running:
         return True
 
     def end(self, by: int = signal.SIGTERM) -> None:
-        """Ends it by a signal."""
+        """Ends it with a signal."""
         if self._process is not None:
             self._process.send_signal(by)
             self._process.wait(PATIENCE)
@@ -71,12 +71,12 @@ class Running:
         self._folder.cleanup()
 
     def state(self) -> Any:
-        """What `/state` says."""
+        """The JSON of `/state`."""
         with urllib.request.urlopen(f"{self.url}/state", timeout=PATIENCE) as response:
             return json.load(response)
 
     def post(self, path: str, body: Any) -> Any:
-        """What a change or a request gives."""
+        """Posts a change or a request, and returns the answer."""
         data, headers = json.dumps(body).encode(), {"Content-Type": "application/json"}
         request = urllib.request.Request(f"{self.url}/{path}", data, headers)
         with urllib.request.urlopen(request, timeout=PATIENCE) as response:
@@ -84,7 +84,7 @@ class Running:
 
 
 class Played(Running):
-    """A home whose devices are played by hand. `name` is that of its document."""
+    """A home whose devices are simulated by hand. `name` is that of its document."""
 
     def __init__(self, more: str = "", name: str = "home.json") -> None:
         port = free_port()
@@ -98,7 +98,7 @@ class Played(Running):
 
 
 class Demonstrated(Running):
-    """The home to try, whose devices fail now and then."""
+    """The demo home, whose devices sometimes fail."""
 
     def __init__(self) -> None:
         self._port, self.broker = free_port(), free_port()

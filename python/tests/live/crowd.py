@@ -11,10 +11,10 @@ import struct
 import sys
 
 BATCH = 100
-"""How many connections are opened at once."""
+"""The number of connections that are opened at once."""
 
 TICKS = 50
-"""How often in a second the sensor sends what it has to say."""
+"""The number of times per second that the sensor sends its messages."""
 
 CONNECT = b"\x10\x11\x00\x04MQTT\x04\x02\x00\x00\x00\x05crowd"
 """The first packet to a broker: a new session without a limit for silence."""
@@ -28,7 +28,7 @@ def packet(topic: str, payload: bytes) -> bytes:
 
 
 async def connected(port: int, text: bytes) -> socket.socket:
-    """A connection that says this, and reads nothing."""
+    """A connection that sends a text, and reads nothing."""
     each = socket.socket()
     each.setsockopt(socket.SOL_SOCKET, socket.SO_RCVBUF, 4096)
     each.setblocking(False)
@@ -39,7 +39,7 @@ async def connected(port: int, text: bytes) -> socket.socket:
 
 
 async def open_all(port: int, count: int, text: bytes) -> list[socket.socket]:
-    """So many connections."""
+    """Opens so many connections."""
     found: list[socket.socket] = []
     while len(found) < count:
         more = min(BATCH, count - len(found))
@@ -63,7 +63,7 @@ async def report(port: int, rate: int) -> None:
 
 
 async def main(page: int, broker: int, connections: int, listeners: int, messages: int) -> None:
-    """Is there until it is ended."""
+    """Makes the crowd, which stays until this process is ended."""
     hard = resource.getrlimit(resource.RLIMIT_NOFILE)[1]
     resource.setrlimit(resource.RLIMIT_NOFILE, (hard, hard))
     held = await open_all(page, connections, b"")

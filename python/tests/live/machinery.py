@@ -1,4 +1,4 @@
-"""What the tests start: a mosquitto, and roman-live itself."""
+"""The processes that the tests start: a mosquitto, and roman-live."""
 
 import http.client
 import importlib.util
@@ -19,19 +19,19 @@ from typing import IO, Any
 from . import PROGRAM, ROMAN_LIVE
 
 PATIENCE = 120.0
-"""How many seconds are waited for what has to come: the machine may be very busy."""
+"""The number of seconds to wait for an event that has to come. The machine may be very busy."""
 
 
 WORKERS = 8
-"""Among how many workers of pytest the free ports are divided."""
+"""The number of workers of pytest that share the free ports."""
 
 GIVEN: deque[int] = deque(maxlen=500)
-"""The ports that this process was given last."""
+"""The ports that were last used by this process."""
 
 
 def free_port() -> int:
-    """A port of 127.0.0.1 that is free, and that the system gives to no connection by itself. No other test is given
-    it soon, in this worker of pytest or in another one: what listens on it may start again."""
+    """A free port of 127.0.0.1 that the system doesn't use for connections by itself. It isn't reused soon, in this
+    worker of pytest or in another one: the server on it may be restarted."""
     given = Path("/proc/sys/net/ipv4/ip_local_port_range").read_text(encoding="ascii").split()
     worker = int(os.environ.get("PYTEST_XDIST_WORKER", "gw0")[2:])
     while True:
@@ -48,8 +48,8 @@ def free_port() -> int:
 
 
 def until(holds: Callable[[], Any], what: str, passing: tuple[type[Exception], ...] = ()) -> Any:
-    """Waits until something is so, and gives it; an error that is `passing` says that it isn't so yet. Raises
-    AssertionError where it takes far too long."""
+    """Waits until a value is true, and returns it. A `passing` error means that it isn't true yet. Raises
+    AssertionError if it takes far too long."""
     end = time.monotonic() + PATIENCE
     while True:
         try:
@@ -64,7 +64,7 @@ def until(holds: Callable[[], Any], what: str, passing: tuple[type[Exception], .
 
 
 def loaded(file: Path) -> Any:
-    """The module in a file, which no package has."""
+    """Imports the module in a file outside of packages."""
     spec = importlib.util.spec_from_file_location(file.stem, file)
     assert spec is not None and spec.loader is not None
     module = importlib.util.module_from_spec(spec)
@@ -73,7 +73,7 @@ def loaded(file: Path) -> Any:
 
 
 class Mosquitto:
-    """A broker of its own, on that port or a free one. `more` is what else its file says."""
+    """A broker of its own, on the given port or a free one. `more` is added to its configuration file."""
 
     def __init__(self, folder: Path, more: str = "", port: int | None = None) -> None:
         self.port = port or free_port()
@@ -98,7 +98,7 @@ class Mosquitto:
             return to.connect_ex(("127.0.0.1", self.port)) == 0
 
     def pause(self) -> None:
-        """Has it do nothing any more, and keep its connections, as one that has lost its network."""
+        """Stops its work but keeps its connections, as if it had lost its network."""
         self._process.send_signal(signal.SIGSTOP)
 
     def stop(self) -> None:
@@ -113,7 +113,7 @@ OPENER = urllib.request.build_opener(urllib.request.ProxyHandler({}))
 def call(
     url: str, body: Any = None, headers: dict[str, str] | None = None, timeout: float = PATIENCE
 ) -> tuple[int, Any]:
-    """Gets what is at a URL, or posts JSON to it. Gives the status and the JSON, or the text."""
+    """Gets a URL, or posts JSON to it. Returns the status, and the JSON or the text."""
     data = None if body is None else body if isinstance(body, bytes) else json.dumps(body).encode()
     given = {"Content-Type": "application/json"} if data is not None else {}
     request = urllib.request.Request(url, data, {**given, **(headers or {})})
@@ -142,7 +142,7 @@ class Live:
         self.process: "subprocess.Popen[bytes]"
 
     def start(self, wait: bool = True, output: int | IO[bytes] = subprocess.DEVNULL) -> None:
-        """Starts it, and waits until its page is there."""
+        """Starts it, and waits until its page answers."""
         with self.log.open("ab") as log:
             self.process = subprocess.Popen(
                 [str(ROMAN_LIVE), *self.words, str(self.file)],
@@ -154,11 +154,11 @@ class Live:
             until(self.answers, f"{self.url}: {self.text()}")
 
     def text(self) -> str:
-        """What it wrote."""
+        """Its output."""
         return self.log.read_text(encoding="utf-8", errors="replace")[-2000:]
 
     def answers(self) -> bool:
-        """Whether its page is there."""
+        """Whether its page answers."""
         if self.process.poll() is not None:
             raise AssertionError(f"it ended with {self.process.returncode}: {self.text()}")
         try:
@@ -172,7 +172,7 @@ class Live:
         self.process.wait()
 
     def stop(self) -> int:
-        """Ends it as systemd does, and gives its status."""
+        """Ends it as systemd does, and returns its status."""
         self.process.terminate()
         return self.process.wait(PATIENCE)
 
@@ -186,11 +186,11 @@ class Live:
         return [int(each) for each in children if _runs(int(each))]
 
     def get(self, path: str) -> tuple[int, Any]:
-        """Gets something."""
+        """Gets a path of its page."""
         return call(self.url + path)
 
     def post(self, path: str, body: Any) -> tuple[int, Any]:
-        """Posts something."""
+        """Posts JSON to a path of its page."""
         return call(self.url + path, body)
 
     def state(self) -> dict[str, Any]:

@@ -1,8 +1,8 @@
 """Takes the pictures of the page that the guide shows: PYTHONPATH=../src python3 -m live.picture [FOLDER], in
 python/tests.
 
-In the first one the kettle of the home to try is frozen, and the page explains why there is no composition without
-it. The second one has the drawing of that home, and the third the house, whose front door is being fixed.
+In the first picture the kettle of the demo home is frozen, and the page explains why there is no composition without
+it. The second one has the drawing of that home. The third one has the house, whose front door is being repaired.
 """
 
 from __future__ import annotations
@@ -30,12 +30,12 @@ def save(driver: Any, file: Path) -> None:
 
 
 def shown(driver: Any, name: str) -> str:
-    """What stands in an element."""
+    """The text of an element."""
     return str(driver.execute_script("return document.getElementById(arguments[0]).textContent", name))
 
 
 def take_demonstration(driver: Any, folder: Path) -> None:
-    """The home to try, with and without its drawing."""
+    """Takes the pictures of the demo home, with and without its drawing."""
     home = Demonstrated()
     try:
         home.begin(0)
@@ -56,7 +56,7 @@ def take_demonstration(driver: Any, folder: Path) -> None:
 
 
 def take_house(driver: Any, folder: Path) -> None:
-    """The house of ten devices, without its front door."""
+    """Takes the picture of the house with ten devices, without its front door."""
     with tempfile.TemporaryDirectory() as place:
         house = Sample("house", Path(place), failures=0)
         try:

@@ -1,4 +1,4 @@
-"""Homes in this process, with devices that are played."""
+"""Homes in this process with simulated devices."""
 
 from __future__ import annotations
 
@@ -30,7 +30,7 @@ AFTER = {
 
 
 class Played(Reach):
-    """A device of the sample home. It acts once `gate` is set, or raises `error`; `told` is what it tells of a call."""
+    """A device of the sample home. It acts when `gate` is set, or raises `error`. `told` is its answer about a call."""
 
     reached = "played"
 
@@ -58,7 +58,7 @@ class Played(Reach):
 
 
 class Playhouse:
-    """A folder with a home file, whose home is started once or again. Its devices outlast it."""
+    """A folder with a home file. Its home can be started repeatedly, and its devices outlast the home."""
 
     def __init__(self, folder: Path, more: str = "", device: str = f"seconds = {PATIENCE}") -> None:
         self.devices: dict[str, Played] = {}
@@ -68,14 +68,14 @@ class Playhouse:
         self.file.write_text(head + "".join(tables), encoding="utf-8")
 
     def make(self, service: str, entry: Any, listener: Listener, *words: Any) -> Reach:
-        """Makes a device, or gives the one that is there another listener."""
+        """Makes a device, or sets another listener of an existing one."""
         device = self.devices.setdefault(service, Played(service, listener))
         device.listener = listener
         return device
 
     @contextlib.asynccontextmanager
     async def home(self) -> AsyncIterator[Home]:
-        """A home that runs."""
+        """Runs a home."""
         with mock.patch.object(fleet, "make_reach", self.make):
             home = await Home.start(HomeFile.read(self.file))
         try:
@@ -85,7 +85,7 @@ class Playhouse:
 
 
 async def until(holds: Callable[[], Any]) -> None:
-    """Waits until something holds."""
+    """Waits until a condition holds."""
     async with asyncio.timeout(PATIENCE):
         while not holds():
             await asyncio.sleep(0.01)

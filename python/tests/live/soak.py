@@ -1,12 +1,13 @@
 #!/usr/bin/python3
-"""Has a home serve many requests: PYTHONPATH=python/src python3 python/tests/live/soak.py [REQUESTS].
+"""Makes many requests to a home: PYTHONPATH=python/src python3 python/tests/live/soak.py [REQUESTS].
 
-The home is that of the demo, with devices of this process that act at once, answer as their machines may,
-and fail once in a thousand times. Each answer of the home is compared with what the devices did. It says how
-far it is after each tenth, and at the end what a request took, and which share of it the program had.
-With `--clients N` so many clients of another process request over HTTP, of a home in which a lamp may be
-switched at any time. With `--in-process` there is no program, but the library that ROMAN_LIBRARY names.
-SOAK_FOLDER is where the store is; else that is where other temporary files are.
+The home is that of the demo. Its devices in this process act at once, answer as their machines may, and fail once in a
+thousand times. Each answer of the home is compared with the actions of the devices. The output has the progress after
+each tenth, and at the end the time of a request, and the program's share of it.
+
+With `--clients N`, so many clients in another process make requests over HTTP to a home in which a lamp may be switched
+at any time. With `--in-process`, the library that ROMAN_LIBRARY names takes the place of the program. The store is in
+SOAK_FOLDER, or in the folder for temporary files.
 """
 
 from __future__ import annotations
@@ -50,7 +51,7 @@ LAMPS = {
     "services": [{"name": name, "behaviour": "lamp"} for name in ("first", "second", "third", "fourth")],
     "target": {"states": ["t"], "start": "t", "final": ["t"], "steps": [["t", True, "switch", "t"]]},
 }
-"""A system in which the one action is always allowed."""
+"""A system whose only action is always allowed."""
 
 CLIENTS = """
 import http.client, json, sys, threading
@@ -82,13 +83,13 @@ for each in threads:
     each.join()
 print(len(refused))
 """
-"""A program whose clients request until so many requests were served. It prints how many were refused."""
+"""A program whose clients make requests until so many were served. It prints the number of refused ones."""
 
 roman_live.recovery.FIRST_PAUSE = 0.001
 
 
 class World:
-    """The devices, and what they share."""
+    """The devices, and their common states."""
 
     def __init__(self, document: Document, seed: int) -> None:
         self.document = document
@@ -100,7 +101,7 @@ class World:
         self.done: dict[str, int | None] = {}
         self.acted = 0
         self.failed = 0
-        # The devices are no part of what is measured, so each thing is looked up once.
+        # The devices aren't measured, so everything is looked up in advance.
         self._allowed = functools.cache(document.allowed)
         self._outcomes = functools.cache(lambda *words: tuple(document.outcomes(*words)))
 
@@ -109,7 +110,7 @@ class World:
         return self.chance.choice(self._allowed(self.target, self.environment))
 
     def act(self, service: str, call: Call) -> tuple[str, str]:
-        """Has a service carry out an action, or fail."""
+        """Makes a service carry out an action, or fail."""
         if self.chance.random() < FAILURES:
             self.failed += 1
             raise DeviceFailed("it doesn't answer")
@@ -136,14 +137,15 @@ def device(service: str) -> aio.Device:
             return NOT_DONE
 
         async def present(self) -> tuple[str, str]:
-            """Where it is."""
+            """Its present state."""
             return WORLD.states[service], WORLD.environment
 
     return Simulated()
 
 
 async def serve(home: Home, requests: int) -> int:
-    """Has requests served, one after the other; gives how many had no composition until a device was back."""
+    """Makes requests one after the other. Returns the number of those that had no composition until a device was
+    back."""
     refused, served = 0, 0
     begun, tenth = time.monotonic(), max(1, requests // 10)
     while served < requests:
@@ -165,7 +167,7 @@ async def serve(home: Home, requests: int) -> int:
 
 
 async def serve_over_http(home: Home, requests: int, clients: int) -> int:
-    """Has requests served over HTTP; gives how many had no composition until a device was back."""
+    """Makes requests over HTTP. Returns the number of those that had no composition until a device was back."""
     server = Server(home, home.file.page)
     await server.begin()
     try:
@@ -179,14 +181,14 @@ async def serve_over_http(home: Home, requests: int, clients: int) -> int:
 
 
 class Shares:
-    """The processor time of the programs of a home, one after the other."""
+    """The processor time of the successive programs of a home."""
 
     def __init__(self, home: Home) -> None:
         self._home = home
         self.programs: dict[int, float] = {}
 
     def look(self) -> None:
-        """Notes the time of the present program, if there is one."""
+        """Records the time of the present program, if there is one."""
         pid = self._home.session.pid
         if pid != os.getpid():
             with contextlib.suppress(OSError):
@@ -194,14 +196,14 @@ class Shares:
                 self.programs[pid] = int(used) / 1e9
 
     async def watch(self) -> None:
-        """Looks again and again."""
+        """Records the time repeatedly."""
         while True:
             self.look()
             await asyncio.sleep(0.1)
 
 
 def write_home(folder: Path, document: Document, in_process: bool) -> HomeFile:
-    """The file of a home whose devices are those of this module."""
+    """Writes the file of a home with the devices of this module."""
     document.write(folder / "home.json")
     sys.modules["soak"] = sys.modules[__name__]
     tables = ""
@@ -215,7 +217,7 @@ def write_home(folder: Path, document: Document, in_process: bool) -> HomeFile:
 
 
 async def soak(requests: int, clients: int, in_process: bool, folder: Path) -> list[str]:
-    """Runs the home, and gives what is said at the end."""
+    """Runs the home, and returns the final report."""
     global WORLD
     document = Document(LAMPS) if clients else Document.load("home.json", TOP / "samples" / "live" / "demo")
     WORLD = World(document, 1)

@@ -21,14 +21,14 @@ TABLE = 'token_file = "operate"\nwatch_token_file = "watch"\n'
 
 
 def write_tokens(folder: Path, operate: str = OPERATE, watch: str = WATCH) -> None:
-    """The files of the tokens."""
+    """Writes the files of the tokens."""
     for name, token in (("operate", operate), ("watch", watch)):
         (folder / name).write_text(f"{token}\n", encoding="utf-8")
         (folder / name).chmod(0o600)
 
 
 async def post(client: Client, path: str, body: str, head: str, kind: str = "application/json") -> tuple[int, str]:
-    """The status and the head of the answer to what is posted."""
+    """Posts a body, and returns the status and the head of the answer."""
     client.send(f"POST {path} HTTP/1.1\r\nHost: localhost\r\n{head}Content-Type: {kind}\r\nConnection: close\r\n")
     client.send(f"Content-Length: {len(body)}\r\n\r\n{body}")
     return await client.head()
@@ -96,11 +96,11 @@ async def test_guessing_is_slowed(tmp_path: Path, monkeypatch: pytest.MonkeyPatc
             return (await client.get("/state", head=f"Authorization: Bearer {token}\r\n"))[0]
 
         assert [await status(f"guess {number}") for number in range(12)] == [401] * 10 + [429] * 2
-        # It isn't known by the answer whether this one is right.
+        # The answer doesn't show whether this token is right.
         assert await status(OPERATE) == 429
         time[0] = 5.0
         assert await status(OPERATE) == 200
-        # One that a browser keeps is no guess.
+        # A token that a browser keeps isn't a guess.
         assert [await status("guess 1") for _ in range(30)] == [401] * 30
         assert await status(OPERATE) == 200
 

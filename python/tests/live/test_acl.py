@@ -1,4 +1,4 @@
-"""The sample of an access list for mosquitto, against a mosquitto."""
+"""The sample of an access list for mosquitto, tested with a mosquitto."""
 
 from __future__ import annotations
 
@@ -46,7 +46,7 @@ READS: dict[str, set[str]] = {
 
 
 class User:
-    """A user at the broker, and what was heard."""
+    """A user at the broker, with the messages that were received."""
 
     def __init__(self, name: str, port: int) -> None:
         self.name = name
@@ -69,7 +69,7 @@ class User:
         self.heard.add((message.payload.decode(), message.topic))
 
     def subscribe(self, topic: str) -> None:
-        """Subscribes. The broker's word comes after what it has sent before."""
+        """Subscribes. The broker's confirmation comes after its earlier messages."""
         self._client.subscribe(topic, qos=1)
         self._wait()
 
@@ -78,7 +78,7 @@ class User:
         self._client.publish(topic, self.name, qos=1).wait_for_publish(PATIENCE)
 
     def close(self) -> None:
-        """Leaves."""
+        """Disconnects."""
         self._client.disconnect()
         self._client.loop_stop()
 

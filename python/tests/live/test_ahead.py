@@ -1,4 +1,4 @@
-"""Requests that wait: the end of one is written together with the call of the next one."""
+"""Requests that wait. The end of one is written together with the call of the next one."""
 
 from __future__ import annotations
 
@@ -22,7 +22,7 @@ CIRCLE = ("brighten", "boil", "pour", "dim")
 
 
 class Commits:
-    """The commits of a store. `full` says at which the disk is full."""
+    """The commits of a store. `full` has the numbers of those at which the disk is full."""
 
     def __init__(self, full: Any = lambda kinds: False) -> None:
         self.kinds: list[tuple[type, ...]] = []
@@ -37,12 +37,12 @@ class Commits:
 
 
 def watched(commits: Commits) -> Any:
-    """Has the commits of all stores pass by."""
+    """Passes the commits of all stores to `commits`."""
     return mock.patch.object(Store, "write", lambda store, *words: commits(store, *words))
 
 
 async def asked(home: Any, window: Any, *actions: str) -> list[Any]:
-    """What becomes of requests that all wait while the window is at work on the first one."""
+    """The results of requests that all wait while the window is at work on the first one."""
     window.gate.clear()
     requests = [asyncio.ensure_future(home.requests.serve(action)) for action in actions]
     await window.asked.wait()
@@ -82,7 +82,7 @@ def test_the_disk_is_full_for_both(tmp_path: Path) -> None:
         async with playhouse.home() as home:
             with watched(commits):
                 done, refused = await asked(home, playhouse.devices["window"], "brighten", "boil")
-            # What was done is answered, and written later; no device is asked for the next one.
+            # The request that was served is answered, and written later. No device is asked for the next one.
             assert done["served_by"] == "window"
             assert isinstance(refused, StoreFailed) and refused.done is None
             assert playhouse.devices["kettle"].calls == []

@@ -1,4 +1,4 @@
-"""The connection to a broker: what is published before there is one, topics that it refuses, and over TLS."""
+"""The connection to a broker: messages before there is one, topics that it refuses, and TLS."""
 
 import asyncio
 import json
@@ -20,7 +20,7 @@ from roman_live.mqtt_api import REFUSED, Connection, SessionConnection, new_clie
 from .machinery import PATIENCE, Mosquitto
 
 KEY = "-newkey ec -pkeyopt ec_paramgen_curve:prime256v1"
-"""The words of openssl for a new key."""
+"""The arguments of openssl for a new key."""
 
 
 async def test_an_answer_waits_for_a_connection(at_end: AsyncExitStack, tmp_path: Path) -> None:
@@ -51,7 +51,7 @@ async def test_an_answer_waits_for_a_connection(at_end: AsyncExitStack, tmp_path
 
 
 def test_paho_2_calls_back_as_paho_1_does() -> None:
-    """Debian 12 has paho 1. The clients of paho 2 are made with a word more, in front of the others, and are told to
+    """Debian 12 has paho 1. Clients of paho 2 are made with one more argument, in front of the others, and can
     acknowledge late."""
     versions = mock.Mock(VERSION1="as paho 1")
     with mock.patch.object(mqtt, "Client") as client:
@@ -74,7 +74,7 @@ async def test_it_is_said_which_topic() -> None:
     assert said == [(False, "the broker doesn't let this home listen to home/window/answer")]
 
 
-# A broker that wants to know who is there.
+# A broker that requires a login.
 
 
 async def test_it_is_said_once_that_it_refuses(at_end: AsyncExitStack, tmp_path: Path) -> None:
@@ -118,7 +118,7 @@ async def test_an_unexpected_error_ends_no_connecting(at_end: AsyncExitStack, tm
 
 
 class Encrypted:
-    """A broker that wants to see a certificate, and shows one."""
+    """A broker that requires a certificate, and has one."""
 
     def __init__(self, folder: Path, at_end: AsyncExitStack) -> None:
         self.folder = folder
@@ -180,7 +180,7 @@ async def test_a_home_that_shows_no_certificate(encrypted: Encrypted) -> None:
 
 
 async def test_messages_that_come_in_one_record(encrypted: Encrypted) -> None:
-    """The system says nothing of those that the socket has decrypted already."""
+    """The system doesn't report messages that the socket has already decrypted."""
     messages = [b"\x30\x09\x00\x04lamp" + b"%03d" % number for number in range(3)]
 
     async def broker(reader: asyncio.StreamReader, writer: asyncio.StreamWriter) -> None:

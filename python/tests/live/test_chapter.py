@@ -27,7 +27,7 @@ CHAPTER = GUIDE[GUIDE.index("## Running your devices") : GUIDE.index("## Samples
 
 
 def block(language: str, word: str = "") -> str:
-    """The block of the chapter in that language with a word, without what it is indented by."""
+    """The block of the chapter in a language with a word, without its indentation."""
     blocks = re.findall(r"^( *)```(\w*)\n(.*?)^ *```$", CHAPTER, re.M | re.S)
     ((indent, text),) = ((indent, text) for indent, name, text in blocks if name == language and word in text)
     return str(re.sub(f"^{indent}", "", text, flags=re.M))
@@ -62,14 +62,14 @@ def test_all_ends_where_the_terminal_is_closed(at_end: AsyncExitStack) -> None:
 
 
 def publish(home: Demonstrated, topic: str, message: str) -> bool:
-    """Publishes a message, and waits a little: nobody may listen yet. Gives False: it isn't answered."""
+    """Publishes a message, and waits a little, because the listener may not be ready yet. Returns False."""
     messages.single(topic, message, qos=1, hostname="127.0.0.1", port=home.broker)
     time.sleep(1)
     return False
 
 
 class Watched:
-    """A lock that shows whether somebody waits for it."""
+    """A lock that shows whether a thread waits for it."""
 
     def __init__(self) -> None:
         self._lock = threading.Lock()
@@ -85,7 +85,7 @@ class Watched:
 
 
 def test_it_tells_nothing_while_it_acts(at_end: AsyncExitStack) -> None:
-    """Else a home that was killed and begins again would have it act twice."""
+    """Otherwise a home that was killed and restarted would make it act twice."""
     kettle = loaded(DEMO / "kettle.py")
     lock, acts, go_on = Watched(), threading.Event(), threading.Event()
     kettle.Kettle.at_work, kettle.FAILURES = lock, 0.0
@@ -113,7 +113,7 @@ def test_it_tells_nothing_while_it_acts(at_end: AsyncExitStack) -> None:
 
 
 def porch(at_end: AsyncExitStack, script: str, more: str = "") -> Porch:
-    """A home with a script as the lamp at the porch, which served."""
+    """A home with a script as the lamp at the porch, which has served."""
     home = Porch(free_port(), script, more)
     at_end.callback(home.close)
     home.begin()
@@ -136,7 +136,7 @@ def test_the_kept_lamp_serves(at_end: AsyncExitStack) -> None:
 
 
 class Porch(Running):
-    """A home with the chapter's device alone beside a kettle."""
+    """A home with only the chapter's device and a kettle."""
 
     def __init__(self, port: int, text: str, more: str) -> None:
         super().__init__(port)
@@ -161,7 +161,7 @@ class Porch(Running):
 
 
 class Answers:
-    """What is on the topic of answers."""
+    """The messages on the topic of answers."""
 
     def __init__(self, port: int) -> None:
         self.heard: list[dict[str, Any]] = []

@@ -1,4 +1,4 @@
-"""roman-live --check lists all that is wrong with a home file, and what is probably meant."""
+"""roman-live --check lists all mistakes in a home file, and suggestions."""
 
 import os
 import subprocess
@@ -81,7 +81,7 @@ def test_no_error_follows_from_another_one(tmp_path: Path, text: str, error: str
 
 
 def check(folder: Path) -> "subprocess.CompletedProcess[str]":
-    """What `roman-live --check` says of the home file in a folder."""
+    """The output of `roman-live --check` for the home file in a folder."""
     command = [str(ROMAN_LIVE), "--check", "home.toml"]
     env = {**os.environ, "ROMAN": PROGRAM}
     return subprocess.run(command, cwd=folder, env=env, capture_output=True, text=True, timeout=300, check=False)

@@ -1,4 +1,5 @@
-"""Commands that are kept: whose a line is, however late it comes, and whatever else is written."""
+"""Commands that keep running: each line belongs to the right call, however late it comes, and whatever else is
+written."""
 
 from __future__ import annotations
 
@@ -48,7 +49,7 @@ for line in sys.stdin:
 
 
 class Heard:
-    """What the home is told."""
+    """The reports to the home."""
 
     def __init__(self) -> None:
         self.places: list[tuple[str, Answer]] = []
@@ -58,17 +59,17 @@ class Heard:
         self.places.append((service, answer))
 
     def answered(self, service: str) -> None:
-        """An answer came."""
+        """Records an answer."""
 
     def gone(self, service: str) -> None:
-        """It is gone."""
+        """Records that the device is gone."""
 
     def late(self, service: str, text: str) -> None:
         self.texts.append(text)
 
 
 class Kept:
-    """A command, whose lines may have numbers. Its answer to an action is that action, and its process."""
+    """A command whose lines may have numbers. Its answer to an action is the action, and its process."""
 
     def __init__(self, folder: Path, at_end: AsyncExitStack, numbered: bool) -> None:
         self.folder = folder
@@ -80,7 +81,7 @@ class Kept:
         self.calls = 0
 
     async def ask(self, action: str) -> tuple[str, str]:
-        """What it answers, and by which process."""
+        """Its answer, and its process."""
         self.calls += 1
         answer = await self.device.ask(self.calls, Call("window", action, action, self.calls))
         assert answer.environment is not None
@@ -100,7 +101,7 @@ class Kept:
         await asyncio.wait_for(waits(), PATIENCE)
 
     async def give_up(self, work: Any, word: str) -> None:
-        """Has it asked, and waits no more once it has heard that."""
+        """Asks it, and gives up when it has received the question."""
         task = asyncio.ensure_future(work)
         await self.until((self.folder / f"heard-{word}").exists)
         task.cancel()
@@ -187,7 +188,7 @@ async def test_one_who_waits_for_his_turn_ends_nothing(kept: Kept) -> None:
     assert (await first) == ("slow", process)
 
 
-# One whose lines have numbers.
+# A command whose lines have numbers.
 
 
 async def test_a_late_answer_by_its_number(numbered: Kept) -> None:

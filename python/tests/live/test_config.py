@@ -1,4 +1,4 @@
-"""Home files, and what is wrong with them."""
+"""Home files, and their mistakes."""
 
 from pathlib import Path
 

@@ -1,7 +1,7 @@
 """A home in a crowd: silent connections, listeners that don't read, and a sensor that never stops.
 
-ROMAN_LIVE_CROWD has the numbers of connections, listeners and messages a second: in the nightly form
-"10000 1000 10000", on a machine that does nothing else. Then the home has to serve at half the pace that it has alone.
+ROMAN_LIVE_CROWD has the numbers of connections, listeners and messages per second. The nightly run has "10000 1000
+10000", on a machine without other work. The home then has to serve at least at half of its usual pace.
 """
 
 from __future__ import annotations
@@ -27,10 +27,10 @@ CROWD = os.environ.get("ROMAN_LIVE_CROWD", "")
 CONNECTIONS, LISTENERS, MESSAGES = map(int, (CROWD or "300 50 500").split())
 
 REQUESTS = 4000 if CROWD else 40
-"""How many requests the pace is measured by."""
+"""The number of requests over which the pace is measured."""
 
 MOST_MEMORY = 40_000
-"""The most bytes that a connection takes of the home's memory."""
+"""The maximum number of bytes of the home's memory for a connection."""
 
 HOME = """
 document = "{document}"
@@ -75,7 +75,7 @@ def live(tmp_path: Path, broker: Mosquitto) -> Iterator[Live]:
     home = HOME.format(document=sample("home.json"), broker=broker.port, folder=tmp_path) + "".join(tables)
     live = Live(tmp_path, home)
     soft, hard = resource.getrlimit(resource.RLIMIT_NOFILE)
-    resource.setrlimit(resource.RLIMIT_NOFILE, (hard, hard))  # As the unit has it.
+    resource.setrlimit(resource.RLIMIT_NOFILE, (hard, hard))  # This is the limit of the unit.
     live.start()
     resource.setrlimit(resource.RLIMIT_NOFILE, (soft, hard))
     yield live
@@ -83,7 +83,7 @@ def live(tmp_path: Path, broker: Mosquitto) -> Iterator[Live]:
 
 
 def pace(live: Live) -> float:
-    """How many requests a second are served, one after the other."""
+    """The number of requests per second that are served one after the other."""
     page = http.client.HTTPConnection("127.0.0.1", live.port, timeout=PATIENCE)
     begun = time.monotonic()
     for number in range(REQUESTS):
@@ -97,7 +97,7 @@ def pace(live: Live) -> float:
 
 
 def memory(live: Live) -> int:
-    """How many bytes of memory the home takes."""
+    """The memory of the home, in bytes."""
     lines = Path(f"/proc/{live.process.pid}/status").read_text(encoding="ascii").splitlines()
     return next(1024 * int(line.split()[1]) for line in lines if line.startswith("VmRSS"))
 

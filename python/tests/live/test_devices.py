@@ -1,4 +1,4 @@
-"""Devices over MQTT, HTTP and commands: that serve, die, hang, answer late, twice and wrongly."""
+"""Devices over MQTT, HTTP and commands that serve, die, hang, or answer late, twice or wrongly."""
 
 import http.client
 import json
@@ -25,8 +25,8 @@ class Devices:
     def __init__(
         self, folder: Path, at_end: AsyncExitStack, lines: bool = True, impatient: str = "", more: str = ""
     ) -> None:
-        """The kettle is one process if it takes `lines`. `impatient` is the service that may take a few seconds only,
-        and `more` stands at the end of the home file."""
+        """The kettle is a single process if it reads `lines`. `impatient` is the service that may take only a few
+        seconds. `more` is added to the home file."""
         self.folder = folder
         self.lines = lines
         self.impatient = impatient
@@ -79,7 +79,7 @@ seconds = {self.seconds("kettle")}
         return value
 
     def ask_in_vain(self, action: str) -> None:
-        """Asks a home that is killed before it answers."""
+        """Makes a request to a home that is killed before it answers."""
         with pytest.raises((OSError, http.client.HTTPException)):
             self.request(action)
 
@@ -178,7 +178,7 @@ def test_a_broker_goes_down_and_up(home: Devices) -> None:
     home.mqtt.subscribed.clear()
     home.broker.start()
     assert home.mqtt.subscribed.wait(PATIENCE)
-    # It stays on the broker until the home is connected, too.
+    # The message stays on the broker until the home is connected.
     home.mqtt.say("window", {"state": "shut"}, retain=True)
     home.back("window")
     assert home.served("brighten")["served_by"] == "window"
@@ -209,14 +209,14 @@ def test_requests_and_the_environment_over_mqtt(home: Devices) -> None:
     home.mqtt.listen("roman/answers")
 
     def answered(patience: float) -> bool:
-        """Asks for it."""
+        """Makes the request, and waits for its answer."""
         client.publish("roman/requests", '{"id": "x", "action": "brighten", "key": "k"}', qos=1)
         return heard.wait(patience)
 
     until(lambda: answered(5), "the answer")  # If the home doesn't listen yet, a request may be lost.
     assert b'"served_by": "window"' in answers[0]
     assert b'"id": "x"' in answers[0]
-    # It is sent again by one who doesn't know that it has come.
+    # A sender that doesn't know whether it has come repeats it.
     heard.clear()
     assert answered(PATIENCE)
     assert json.loads(answers[-1]) == json.loads(answers[0])
@@ -246,7 +246,7 @@ def test_it_ends_when_the_open_request_is_served(home: Devices) -> None:
 
 
 def test_it_ends_while_it_still_begins(home: Devices) -> None:
-    """It asks a device what became of a call, which may take as long as an action."""
+    """It asks a device for the result of a call, which may take as long as an action."""
     home.world.manners["window"] = "late"
     asking = threading.Thread(target=home.ask_in_vain, args=("brighten",), daemon=True)
     asking.start()
@@ -290,11 +290,11 @@ def test_the_state_is_on_the_broker(home: Devices) -> None:
     assert second.process.wait(PATIENCE) == 3
     assert home.live.stop() == 0
     until(lambda: states[-1] == {"gone": True}, "the end")
-    # The second one found the lock before it came to the broker.
+    # The second home found the lock before it connected to the broker.
     assert states[before:].count({"gone": True}) == 1
 
 
-# The kettle is a command that runs anew for each call.
+# The kettle is a command that is started for each call.
 
 
 @pytest.fixture
@@ -316,7 +316,7 @@ def test_it_serves_and_fails(once: Devices) -> None:
 
 
 class LeftAtWork(Devices):
-    """A command that is at work when the home is killed runs on. It may not be asked for the same again."""
+    """A command that is at work when the home is killed continues. It mustn't be asked to do the same again."""
 
     def kill_at_work(self) -> None:
         """Kills the home while the kettle boils."""
@@ -344,7 +344,7 @@ def test_it_is_waited_for(left: LeftAtWork) -> None:
     assert left.world.wrong == []
 
 
-# One that may be asked twice for one thing, and still not twice at once.
+# A device that may be asked twice for one call, but not twice at once.
 
 
 @pytest.fixture
@@ -404,7 +404,7 @@ def test_what_could_not_be_delivered_is_not_done_later(window: Devices) -> None:
 
 
 def test_what_is_kept_for_a_device_that_is_away_is_not_done_later(window: Devices) -> None:
-    """A device with a session that stays is given by the broker what it has missed."""
+    """The broker sends a device with a persistent session the messages that it has missed."""
     window.mqtt.close()
     window.mqtt = MqttDevices(window.world, window.broker.port, ["window"], name="window")
     window.mqtt.close()

@@ -1,5 +1,5 @@
-"""Home Assistant's discovery: its messages, what their templates give, and what its entities do; and the flow for
-Node-RED."""
+"""Home Assistant's discovery: its messages, the values of their templates, and the effects of its entities. Also the
+flow for Node-RED."""
 
 from __future__ import annotations
 
@@ -22,7 +22,7 @@ SCHEMA = Draft202012Validator(json.loads((Path(__file__).parent / "discovery.sch
 
 
 class Assistant:
-    """What Home Assistant sees at a broker: the newest message on each topic."""
+    """A simulated Home Assistant at a broker: it has the newest message on each topic."""
 
     def __init__(self, port: int) -> None:
         self.seen: dict[str, str] = {}
@@ -52,13 +52,13 @@ class Assistant:
         return found
 
     def rendered(self, entity: dict[str, Any], key: str) -> str:
-        """What a template gives for the newest message on its topic."""
+        """The value of a template for the newest message on its topic."""
         topics = {"availability_template": "availability_topic", "json_attributes_template": "json_attributes_topic"}
         text = self.seen.get(entity[topics.get(key, "state_topic")], "{}")
         return jinja2.Template(entity[key]).render(value=text, value_json=json.loads(text))
 
     def value(self, name: str, key: str = "value_template") -> str:
-        """What a template of an entity gives."""
+        """The value of a template of an entity."""
         return self.rendered(self.entities()[name], key)
 
     def there(self, name: str) -> bool:
@@ -151,7 +151,7 @@ def test_all_are_unavailable_once_the_home_is_gone(live: Live, assistant: Assist
     for name, entity in assistant.entities().items():
         for key in entity:
             if key.endswith("_template") and key != "command_template":
-                assistant.rendered(entity, key)  # It fails for no message.
+                assistant.rendered(entity, key)  # It mustn't fail for any message.
 
 
 def test_the_messages_come_again_when_home_assistant_starts(live: Live, assistant: Assistant) -> None:
@@ -168,8 +168,8 @@ def config_of(topic: str) -> str:
 def test_entities_that_are_no_more_are_removed(
     live: Live, assistant: Assistant, broker: Mosquitto, tmp_path: Path
 ) -> None:
-    """Those of a service that the document doesn't have any more, and of an environment that has a sensor now. What
-    isn't the home's own stays."""
+    """They belong to a service that the document no longer has, and to an environment that now has a sensor. Messages
+    of others stay."""
     until(lambda: len(assistant.entities()) == 12, "the entities")
     live.stop()
     texts = ('{"availability_topic": "cellar/state"}', "no JSON", "[" * 50_000, '["kitchen/state"]')
@@ -204,7 +204,7 @@ NEEDED = {
     "mqtt-broker": {"broker", "port"},
     "tab": {"label"},
 }
-"""What an imported node of each type has to have."""
+"""The properties that an imported node of each type has to have."""
 
 
 def test_the_flow_of_node_red_can_be_imported() -> None:
@@ -223,7 +223,7 @@ def test_the_flow_of_node_red_can_be_imported() -> None:
 
 
 def test_the_flow_requests_and_hears_the_answer(live: Live, assistant: Assistant) -> None:
-    """What its nodes send is served, and what they listen to comes."""
+    """The requests of its nodes are served, and the nodes receive the answers."""
     flow = json.loads(FLOW.read_text(encoding="utf-8").replace("demo/", "kitchen/"))
     (inject,) = (node for node in flow if node["type"] == "inject")
     (change,) = (node for node in flow if node["type"] == "change")

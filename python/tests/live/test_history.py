@@ -1,4 +1,4 @@
-"""`roman-live history`: who asked, who served and why, what failed and what was changed."""
+"""`roman-live history`: the sources, services and reasons of requests, failures, and changes."""
 
 from __future__ import annotations
 
@@ -24,7 +24,8 @@ from .test_load import Served
 
 @pytest.fixture
 def playhouse(tmp_path: Path) -> Playhouse:
-    """A home with a request that two services had, and a change. It has ended before the one that failed was back."""
+    """A home with a request that went to two services, and a change. It ended before the service that failed was
+    back."""
     playhouse = Playhouse(tmp_path)
 
     async def live() -> None:
@@ -44,7 +45,7 @@ def shown(playhouse: Playhouse, capsys: pytest.CaptureFixture[str], *words: str)
 
 
 def test_an_entry_is_one_line(playhouse: Playhouse, capsys: pytest.CaptureFixture[str]) -> None:
-    """Whatever the name of the one who asked is."""
+    """This holds for any name of the source."""
 
     async def live() -> None:
         async with playhouse.home() as home:
@@ -102,7 +103,7 @@ def texts(page: dict[str, Any]) -> list[str]:
 
 
 def pages(store: Path, length: int, service: str | None = None) -> list[str]:
-    """All texts, from the newest on, by pages of that length."""
+    """All texts, the newest first, read by pages of that length."""
     found, before = [], ""
     while before is not None:
         page = history.page(store, service, before, length)

@@ -13,7 +13,7 @@ from .browser import Played, browser, wait_until
 from .test_page import CONTRAST
 
 CHANGES = 110
-"""More than a page of the history has, or the list of the newest events."""
+"""More changes than a page of the history has, or the list of the newest events."""
 
 
 @pytest.fixture

@@ -1,4 +1,4 @@
-"""A home in this process, with devices that are played: policies, pauses, and what moves by itself."""
+"""A home in this process with simulated devices: policies, pauses, and devices that move by themselves."""
 
 import asyncio
 import os
@@ -28,7 +28,7 @@ SERVICES = {"depot": ("belt", "drone", "van", "broom"), "home": HOME, "short/hom
 
 
 class Played(Reach):
-    """A device that does what the test says; its first outcome where that says nothing."""
+    """A device with the outcomes of the test. If the test has none, it has its first possible outcome."""
 
     reached = "played"
 
@@ -91,7 +91,7 @@ class InProcess:
         return self.home
 
     def play(self, service: str, entry: Any, listener: Listener, *words: Any) -> Reach:
-        """What each service is reached by."""
+        """Makes the reach of a service."""
         return Played(service, listener, self)
 
     async def until(self, true: Any) -> None:
@@ -112,7 +112,7 @@ def homes(tmp_path: Path, at_end: AsyncExitStack) -> InProcess:
 
 
 def lines(caplog: pytest.LogCaptureFixture) -> list[str]:
-    """What was logged."""
+    """The log."""
     return [f"{each.levelname}:{each.name}:{each.getMessage()}" for each in caplog.records]
 
 
@@ -137,7 +137,7 @@ async def test_least_cost(homes: InProcess) -> None:
 
 async def test_least_worst_is_that_of_advise(homes: InProcess) -> None:
     costs = homes.folder / "costs"
-    # Now the drone is cheaper; but it would have to sweep at a high price.
+    # The drone is cheaper now, but it would later have to sweep at a high price.
     costs.write_text(
         '[["drone", "ship", 1], ["van", "ship", 2], ["drone", "sweep", 90], ["broom", "sweep", 90]]',
         encoding="utf-8",
@@ -173,7 +173,7 @@ async def test_costs_of_what_is_not_there(homes: InProcess) -> None:
                 await homes.begin("depot", f'[policy]\nchoose = "{choose}"\ncosts = "{costs}"')
 
 
-# What is said where a home begins otherwise than it was meant.
+# Messages of a home that can't begin as it was meant to.
 
 
 async def test_a_program_that_is_not_there(homes: InProcess) -> None:
@@ -186,7 +186,7 @@ async def test_a_program_that_is_not_there(homes: InProcess) -> None:
 
 
 async def test_a_document_that_is_none(homes: InProcess) -> None:
-    """Its reader stops at what it lacks first, and roman-lint says all."""
+    """Its reader stops at the first mistake, and refers to roman-lint, which lists all."""
     file = homes.folder / "home.toml"
     file.write_text(f'document = "mine.json"\nprogram = "{PROGRAM}"\n', encoding="utf-8")
     with pytest.raises(HomeFileError, match="home.toml: document: /.*/mine.json: No such file or directory$"):
@@ -233,7 +233,7 @@ async def test_a_table_that_the_journal_needs(homes: InProcess) -> None:
 
 
 async def test_beside_a_home_that_is_just_beginning(homes: InProcess) -> None:
-    """No device is made, and nothing is written, though the store isn't there yet."""
+    """No device is made, and nothing is written, although there is no store yet."""
     beginning = Store(homes.folder / "journal")
     homes.at_end.callback(beginning.close)
     with mock.patch.object(homes, "play", side_effect=AssertionError):
@@ -267,7 +267,7 @@ async def test_a_request_in_doubt_that_was_done(homes: InProcess) -> None:
     await homes.until(lambda: not home.registry["window"].frozen)
     with pytest.raises(InDoubt):
         await home.requests.serve("brighten", "a")
-    await home.fleet.jump("window", "shut")  # Where it was before.
+    await home.fleet.jump("window", "shut")  # This was its earlier state.
     await home.requests.record("brighten", "window", ("open", "day"), "a")
     assert (await home.requests.serve("brighten", "a"))["served_by"] == "window"
     assert ((await home.view.state())["target"]["state"], homes.asked) == ("bright", ["window"])
@@ -286,7 +286,7 @@ async def test_the_home_ends_as_a_request_over_http_is_open(homes: InProcess) ->
 
 
 async def test_a_request_over_http_that_gets_no_turn(homes: InProcess) -> None:
-    """Its task goes on, and isn't taken for one that is cancelled."""
+    """Its task continues, and isn't taken for one that is cancelled."""
     home = await homes.begin("home")
     homes.gates["window"] = asyncio.Event()
     first = asyncio.ensure_future(home.requests.serve("brighten"))
@@ -343,7 +343,7 @@ async def test_what_is_known_by_the_journal_is_no_news(homes: InProcess, caplog:
     assert "INFO:roman_live:home.json runs; requests served so far: 1" in lines(caplog)
 
 
-# What `roman-live --check` finds, also while the home runs.
+# The findings of `roman-live --check`, also while the home runs.
 
 
 async def check(homes: InProcess, more: str = "") -> None:
@@ -377,7 +377,7 @@ async def test_a_check_finds_a_journal_of_another_document(homes: InProcess) -> 
 
 
 async def test_a_check_misses_a_table_that_the_journal_needs(homes: InProcess) -> None:
-    """A service that joined needs one, also while the home runs, and one that is gone doesn't."""
+    """A service that joined needs one, also while the home runs. A service that was removed doesn't."""
     journal = '[journal]\npath = "journal"'
     with mock.patch.dict(SERVICES, home=(*HOME, "spare")):
         home = await homes.begin("home", journal)
@@ -487,7 +487,7 @@ async def test_one_that_is_frozen_by_hand_meanwhile_stays_so(homes: InProcess) -
 
 
 async def test_what_it_says_while_it_is_taken_back_counts(homes: InProcess) -> None:
-    """It was asked for its state, and is taken back in that one when it reports another."""
+    """It was asked for its state, and reports another one while it is taken back in that state."""
     home = await homes.begin("home")
     homes.broken.add("window")
     await home.requests.serve("brighten")
@@ -558,7 +558,7 @@ async def test_one_that_cannot_tell_stays_frozen(homes: InProcess) -> None:
     assert (await homes.service("window"))["status"] == "ready"
 
 
-# The program is there, and says nothing any more.
+# The program runs, but no longer replies.
 
 
 def kinds(homes: InProcess) -> dict[str, str]:
@@ -567,7 +567,7 @@ def kinds(homes: InProcess) -> dict[str, str]:
 
 
 def other_program(homes: InProcess, hangs: str) -> Any:
-    """Has another program run, which hangs where it is called so."""
+    """Runs another program, which hangs if it is called with these words."""
     program = homes.folder / "program"
     program.write_text(f'#!/bin/sh\n[ "$1" != {hangs} ] || exec sleep 3600\nexec {PROGRAM} "$@"\n', encoding="utf-8")
     program.chmod(0o755)
@@ -609,7 +609,7 @@ async def test_its_advice(homes: InProcess, caplog: pytest.LogCaptureFixture) ->
     assert lines(caplog) == ["WARNING:roman_live:advise gave nothing within 10.0 seconds"]
 
 
-# The program ends, and can't be started for a while, as where its package is replaced.
+# The program ends, and can't be started for a while, for example because its package is replaced.
 
 
 class Away(InProcess):
@@ -625,7 +625,7 @@ class Away(InProcess):
         os.kill(home.session.pid, signal.SIGKILL)
 
     def there(self) -> None:
-        """It is there again."""
+        """Makes the program available again."""
         self.home.session.core.words = self.words
 
 
@@ -761,7 +761,7 @@ async def test_what_is_told_counts_for_nothing_where_it_is_asked_meanwhile(homes
     comparing = asyncio.ensure_future(home.fleet.compare("window"))
     await homes.until(lambda: homes.told.count("window") == 2)
     assert (await home.requests.serve("brighten"))["state"] == "open"
-    homes.states["window"] = "ajar"  # What it said before it was asked.
+    homes.states["window"] = "ajar"  # It reported this before it was asked.
     homes.mute["window"].set()
     await comparing
     await home.requests.serve("boil")

@@ -1,4 +1,4 @@
-"""The schema of home files against the checks of roman-live, on home files that are broken at random."""
+"""Compares the schema of home files with the checks of roman-live, on home files with random faults."""
 
 import copy
 import json
@@ -22,7 +22,7 @@ HOMES = [tomllib.loads(GOOD), {"document": "h", "mqtt": {"tls": {}}, "devices": 
 ONLY_THE_PROGRAM = re.compile(
     r"can't be (read|used)|whose first line is empty|has the same token|, and so is |Invalid|Expected|Cannot"
 )
-"""What no schema says: faults of other files, and topics with two uses."""
+"""Faults that no schema finds: those of other files, and topics with two uses."""
 ODD: list[Any] = [
     True,
     False,
@@ -75,7 +75,7 @@ def homes(draw: st.DrawFn) -> dict[str, Any]:
 
 
 def toml(value: Any) -> str:
-    """A value in a TOML text."""
+    """A value in TOML."""
     if isinstance(value, dict):
         return "{" + ", ".join(f"{json.dumps(key)} = {toml(each)}" for key, each in value.items()) + "}"
     return "[" + ", ".join(map(toml, value)) + "]" if isinstance(value, list) else json.dumps(value)
@@ -150,6 +150,6 @@ port = \"\"\"
     ),
 )
 def test_a_fault_has_its_line(tmp_path: Path, without: str, line: str) -> None:
-    """The first fault in the order of the program's checks: the page's comes before those of the devices."""
+    """It is the first fault in the order of the checks. Faults of the page come before those of devices."""
     text = FAULTY if "port" in line else FAULTY.partition("[page]")[0]
     assert line in refusal(tmp_path, text.replace(without, "", 1) if without else text)

@@ -1,6 +1,6 @@
-"""Homes whose session runs within their own process, by libroman: the tests of requests and of load once more.
+"""The tests of requests and of load, repeated with homes whose session runs within their process by libroman.
 
-ROMAN_LIBRARY names the shared library; without it `./build --library` makes it, unless it is there."""
+ROMAN_LIBRARY names the shared library. Without it, `./build --library` makes the library if it is missing."""
 
 from __future__ import annotations
 

@@ -1,7 +1,7 @@
-"""roman-live and the program that are killed at random moments of many requests.
+"""roman-live and the program are killed at random moments of many requests.
 
-ROMAN_LIVE_KILLS says how often: a hundred times if it isn't set, a thousand times in the nightly form. Whatever is
-killed, and when: each request is served once, in its turn, and none is lost.
+ROMAN_LIVE_KILLS is the number of kills: a hundred by default, and a thousand in the nightly run. Each request has to be
+served once, in its order, and none may be lost.
 """
 
 from __future__ import annotations
@@ -28,7 +28,7 @@ from .world import HttpDevices, MqttDevices, World
 
 KILLS = int(os.environ.get("ROMAN_LIVE_KILLS", "100"))
 MOST_REQUESTS = 6
-"""The most requests between two kills."""
+"""The maximum number of requests between two kills."""
 
 SLOW = """#!/bin/bash
 # A kettle that takes up to seconds for an action.
@@ -59,7 +59,7 @@ seconds = 60
 
 
 class Person:
-    """One who makes one request after the other, each again until it is known to be served, as many as `limit`."""
+    """Makes `limit` requests one after the other. Each is repeated until it is known to be served."""
 
     def __init__(self, live: Live) -> None:
         self.live = live
@@ -107,7 +107,7 @@ class Killer:
         self.kills = 0
 
     def kill(self) -> None:
-        """Kills something at a random moment."""
+        """Kills the home, its program or both at a random moment."""
         time.sleep(self.chance.random() * self.chance.choice((0.002, 0.01, 0.1, 0.5)))
         {0: self.home, 1: self.program, 2: self.both, 3: self.twice, 4: self.end}[self.kills % 5]()
 
@@ -130,7 +130,7 @@ class Killer:
         self.home()
 
     def twice(self) -> None:
-        """The next home is killed, too, while it begins."""
+        """Kills the next home, too, while it begins."""
         self.kills += 1
         self.live.kill()
         self.live.start(wait=False)
@@ -138,7 +138,7 @@ class Killer:
         self.home()
 
     def end(self) -> None:
-        """It is killed, and the next one is ended as systemd does while it begins."""
+        """Kills the home, and ends the next one while it begins, as systemd does."""
         self.kills += 1
         self.live.kill()
         self.live.start(wait=False)

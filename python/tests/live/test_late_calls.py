@@ -1,4 +1,4 @@
-"""A call that comes to a device after that has said that it didn't do it: the devices of the home to try refuse it."""
+"""Calls that reach a device after it has answered that it didn't do them. The devices of the demo home refuse them."""
 
 from __future__ import annotations
 
@@ -46,7 +46,7 @@ def demo() -> Any:
 
 
 def test_over_mqtt(tmp_path: Path, demo: Any, monkeypatch: pytest.MonkeyPatch) -> None:
-    """Also if the device was started again meanwhile."""
+    """The device also refuses it after a restart."""
     monkeypatch.chdir(tmp_path)
 
     def device() -> Any:

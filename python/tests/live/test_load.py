@@ -1,4 +1,4 @@
-"""Strangers and load: connections, listeners, messages, drawings and warnings, each beyond its limit."""
+"""Load from outside: connections, listeners, messages, drawings and warnings, each beyond its limit."""
 
 from __future__ import annotations
 
@@ -51,7 +51,7 @@ class Client:
         return cls(*await asyncio.open_connection("127.0.0.1", urlsplit(server.url).port))
 
     def send(self, text: str) -> None:
-        """Sends what may be a part of a request."""
+        """Sends a text, which may be a part of a request."""
         self.writer.write(text.encode())
 
     async def get(self, path: str, method: str = "GET", head: str = "") -> tuple[int, str]:
@@ -74,7 +74,7 @@ class Client:
 
 
 class Served:
-    """A home of played devices, with its page."""
+    """A home of simulated devices, with its page."""
 
     def __init__(self, playhouse: Playhouse, home: Home, server: Server) -> None:
         self.devices = playhouse.devices
@@ -84,7 +84,7 @@ class Served:
     @classmethod
     @contextlib.asynccontextmanager
     async def begin(cls, folder: Path, more: str = "") -> AsyncIterator[Served]:
-        """A home that runs, with these tables in its file."""
+        """Runs a home with these tables in its file."""
         playhouse = Playhouse(folder, EMPTY_PAGE + more)
         async with playhouse.home() as home:
             server = Server(home, HomeFile.read(playhouse.file).page)
@@ -106,7 +106,7 @@ async def test_silent_connections_make_room(tmp_path: Path) -> None:
         silent = [await served.client() for _ in range(20)]
         for each in silent[:12]:
             await each.ended()
-        # Neither one that has made a request nor a new one is shut out.
+        # Neither a connection that has made a request nor a new one is refused.
         assert (await used.get("/state"))[0] == 200
         assert (await (await served.client()).get("/state"))[0] == 200
 
@@ -348,13 +348,13 @@ async def test_a_document_is_drawn_once(tmp_path: Path, status: int) -> None:
 
 
 async def test_a_drawing_that_is_given_up_leaves_nothing_running(tmp_path: Path) -> None:
-    """Also not what the drawing had started."""
+    """This includes the processes that the drawing has started."""
     document, child = tmp_path / "home.json", tmp_path / "child"
     document.touch()
     tool = ("sh", "-c", f"sleep 1000 & echo $! > {child}; wait")
     with mock.patch.object(pictures, "_tool", lambda: tool), mock.patch.object(pictures, "LONGEST_DRAWING", 1.0):
         assert await Picture(document).get() is None
-    with contextlib.suppress(FileNotFoundError, ProcessLookupError, ValueError):  # It has ended, or never began.
+    with contextlib.suppress(FileNotFoundError, ProcessLookupError, ValueError):  # It has ended, or it never began.
         stat = Path(f"/proc/{int(child.read_text(encoding='ascii'))}/stat")
         async with asyncio.timeout(PATIENCE):
             while stat.read_text(encoding="ascii").split()[2] != "Z":
@@ -403,7 +403,7 @@ async def test_a_request_gets_its_turn_though_sensors_never_stop(tmp_path: Path)
 
 
 async def test_requests_go_on_though_the_environment_moves_before_each(tmp_path: Path) -> None:
-    """A move and a request that take no turn of the loop don't wait for each other."""
+    """A move and a request that need no turn of the loop don't wait for each other."""
     async with Served.begin(tmp_path) as served:
         home = served.home
         with mock.patch.object(Store, "pace", 0.0):
@@ -426,7 +426,7 @@ def test_of_messages_in_a_row_the_newest_is_heard() -> None:
 
 
 async def test_what_waits_is_older_than_an_answer(tmp_path: Path) -> None:
-    """A request that has waited for moves often enough is served, and what its device said before counts no more."""
+    """A request that has waited for moves often enough is served. Earlier reports of its device no longer count."""
     async with Served.begin(tmp_path) as served:
         home = served.home
         policy, choices = home.chooser.policy, []
@@ -446,7 +446,7 @@ async def test_what_waits_is_older_than_an_answer(tmp_path: Path) -> None:
 
 
 async def test_a_move_right_after_an_answer_counts(tmp_path: Path) -> None:
-    """The registry has the states before the answer then, as the device has again."""
+    """The registry then still has the states before the answer, which the device has again."""
     async with Served.begin(tmp_path) as served:
         home = served.home
 
@@ -503,7 +503,7 @@ async def test_too_many_requests_over_mqtt(tmp_path: Path) -> None:
 
 
 async def test_a_request_that_is_held_back_can_be_cancelled(tmp_path: Path) -> None:
-    """One that waits for room, and one that waits for its turn behind it."""
+    """One request waits for room, and another one waits for its turn behind it."""
     async with Served.begin(tmp_path, "[limits]\nwaiting = 1\n") as served:
         published: asyncio.Queue[Any] = asyncio.Queue()
         acknowledged: list[str] = []
@@ -534,7 +534,7 @@ async def test_a_request_that_is_held_back_can_be_cancelled(tmp_path: Path) -> N
 
 
 class Fake:
-    """A broker that has what is published."""
+    """A broker that records the published messages."""
 
     connected = True
     state_topic = "state"
@@ -554,11 +554,11 @@ class Fake:
         return True
 
     def publish(self, topic: str, value: Any) -> None:
-        """Has it."""
+        """Records it."""
         self.published.put_nowait(value)
 
     async def agreed(self) -> None:
-        """Comes at once."""
+        """Returns at once."""
 
 
 def test_a_bucket_is_filled_again() -> None:

@@ -1,4 +1,4 @@
-"""Maps: mistakes in their tables, what messages stand for, and devices that no sample shows."""
+"""Maps: mistakes in their tables, the meanings of messages, and devices that no sample has."""
 
 from __future__ import annotations
 
@@ -209,7 +209,7 @@ def test_these_maps_are_right(tmp_path: Path, text: str) -> None:
 
 
 def test_an_action_has_its_own_headers(tmp_path: Path) -> None:
-    """Names of headers have no case."""
+    """Names of headers are case-insensitive."""
     text = HTTP.replace("[devices.ceiling.actions]", 'headers = {A = "1", B = "2"}\n[devices.ceiling.actions]')
     found = map_of(tmp_path, text.replace('"?turn=on"', '"?turn=on", headers = {a = "3"}'))
     assert isinstance(found, HttpMap)
@@ -257,7 +257,7 @@ def test_templates_of_home_assistant(tmp_path: Path, template: str, said: str | 
 
 
 class Heard:
-    """A listener that remembers what it was told."""
+    """A listener that records the reports."""
 
     def __init__(self) -> None:
         self.told: list[tuple[Any, ...]] = []
@@ -276,7 +276,7 @@ class Heard:
 
 
 class Broker:
-    """A broker that keeps what is sent, and gives a device's messages to those who listen."""
+    """A broker that records the messages that are sent, and passes a device's messages to listeners."""
 
     def __init__(self) -> None:
         self.connected = True
@@ -311,7 +311,7 @@ class Plug:
 
     @classmethod
     async def opened(cls, folder: Path, text: str) -> Plug:
-        """The plug of this home file."""
+        """Opens the plug of this home file."""
         plug = cls(map_of(folder, text))
         await plug.reach.open()
         return plug
@@ -320,7 +320,7 @@ class Plug:
         self.broker.say("stat/plug/RESULT", json.dumps({"POWER": power}), retained)
 
     async def asked(self, work: Coroutine[None, None, Value]) -> asyncio.Task[Value]:
-        """Something that has been sent, and waits."""
+        """Begins a call, and waits until its command has been sent."""
         task = asyncio.create_task(work)
         sent = len(self.broker.sent)
         while len(self.broker.sent) == sent and not task.done():
@@ -389,7 +389,7 @@ async def test_one_that_can_not_be_asked_has_said_its_state(tmp_path: Path) -> N
         await call
     told = asyncio.ensure_future(plug.reach.tell(None))
     await asyncio.sleep(0.01)
-    assert not told.done()  # What it said before the failure counts for nothing.
+    assert not told.done()  # Its message before the failure doesn't count.
     plug.result("OFF")
     assert await told == Answer("off")
 
@@ -428,7 +428,7 @@ state_url = "http://127.0.0.1:PORT/"
 
 @pytest.mark.parametrize("text", [MQTT_SENSOR, HTTP_SENSOR])
 async def test_a_sensor_that_is_gone_has_no_state(tmp_path: Path, text: str) -> None:
-    """What it said before it was gone doesn't undo the moves of the document."""
+    """Its earlier report doesn't undo the moves of the document."""
     broker: Any = Broker()
     said: list[bool] = []
     found = read(tmp_path, text.replace("PORT", str(free_port()))).environment
@@ -446,7 +446,7 @@ async def test_a_sensor_that_is_gone_has_no_state(tmp_path: Path, text: str) -> 
 
 
 async def test_one_that_says_no_state_is_believed(tmp_path: Path) -> None:
-    """A plug behind a radio gateway, which only sends."""
+    """A plug behind a radio gateway that only sends."""
     text = """
     document = "home.json"
     [mqtt]
@@ -491,7 +491,7 @@ class Hue:
 
     @classmethod
     async def begin(cls, folder: Path, at_end: AsyncExitStack, poll: str = "poll = 0.05") -> tuple[Hue, MappedReach]:
-        """A bridge that runs, and its light."""
+        """Starts a bridge with its light."""
         bridge, app, where = cls(), web.Application(), "/clip/v2/resource/light/1"
         app.add_routes([web.get(where, bridge._get), web.put(where, bridge._put)])
         runner = web.AppRunner(app)
@@ -526,7 +526,7 @@ class Hue:
 async def polled(
     reach: MappedReach, heard: Heard, seconds: Callable[[], float] = lambda: PATIENCE
 ) -> AsyncIterator[None]:
-    """A device that is polled for a listener. Each poll waits for `seconds()`."""
+    """Polls a device for a listener. Each poll waits for `seconds()`."""
     assert reach.poll is not None
     moved = partial(heard.moved, "ceiling")
 
@@ -539,7 +539,7 @@ async def polled(
 
 
 async def until_told(heard: Heard, what: tuple[Any, ...]) -> None:
-    """Waits until the listener was told that."""
+    """Waits until the listener has received a report."""
     async with asyncio.timeout(PATIENCE):
         while what not in heard.told:
             await asyncio.sleep(0.01)
@@ -565,7 +565,7 @@ async def test_a_light_of_hue(tmp_path: Path, at_end: AsyncExitStack) -> None:
 
 
 async def test_one_that_hangs_is_gone_until_it_answers(tmp_path: Path, at_end: AsyncExitStack) -> None:
-    """So it is with one that can't be asked for want of files, which isn't gone."""
+    """A device that can't be asked because no file is left isn't gone."""
     bridge, reach = await Hue.begin(tmp_path, at_end)
     heard, seconds = bridge.heard, PATIENCE
     async with polled(reach, heard, lambda: seconds):
@@ -586,7 +586,7 @@ async def test_one_that_hangs_is_gone_until_it_answers(tmp_path: Path, at_end: A
 
 
 async def test_want_of_files_after_a_command(tmp_path: Path, at_end: AsyncExitStack) -> None:
-    """The device was told, so it isn't told again."""
+    """The device has received the command, so it isn't sent again."""
     _, reach = await Hue.begin(tmp_path, at_end, "poll = 3600")
     there = json.dumps({"data": [{"on": {"on": True}}]})
     with mock.patch.object(reach, "fetch", side_effect=[NoSpace("too many open files"), there]):
@@ -625,7 +625,7 @@ async def test_machines_that_hang_delay_nothing_else(tmp_path: Path) -> None:
 
 
 class SlowMachine:
-    """A client of a machine that takes a connection only when it is let to."""
+    """A client of a machine that accepts a connection only when the test allows it."""
 
     def __init__(self) -> None:
         self.connects, self.closed, self.free = threading.Event(), threading.Event(), threading.Event()
@@ -670,7 +670,7 @@ async def test_a_call_that_is_given_up_writes_nothing(tmp_path: Path, given_up: 
 
 
 async def test_a_valve_with_registers(tmp_path: Path) -> None:
-    """A valve whose place is a holding register, at the second of two units of one server."""
+    """The state of the valve is a holding register, at the second of two units of one server."""
     port, heard = free_port(), Heard()
     registers = ModbusSequentialDataBlock(0, [0] * 16)
     units = {1: ModbusSlaveContext(zero_mode=True), 3: ModbusSlaveContext(hr=registers, zero_mode=True)}

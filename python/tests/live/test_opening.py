@@ -1,4 +1,4 @@
-"""What roman-live says at its start: that there is no composition, and that the target can go no further."""
+"""The messages of roman-live at its start: there is no composition, or the target can't continue."""
 
 import json
 import os
@@ -31,7 +31,7 @@ STUCK = {
 
 @contextmanager
 def simulated(folder: Path, document: Any) -> Iterator[tuple[str, list[str]]]:
-    """A home that is simulated: its URL, and the lines of its log, which come while it runs."""
+    """Runs a simulated home. Yields its URL, and the lines of its log, which come while it runs."""
     (folder / "home.json").write_text(json.dumps(document), encoding="utf-8")
     (folder / "home.toml").write_text('document = "home.json"\n[page]\nport = 0\n', encoding="utf-8")
     running = subprocess.Popen(

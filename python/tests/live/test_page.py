@@ -44,7 +44,7 @@ return [...document.querySelectorAll("header *, main *")]
 
 
 STATUSES = {"ready": "ready", "frozen": "out of order", "under way": "at work", "dead": "gone"}
-"""The page's words for the statuses of services that weren't frozen by hand."""
+"""The words of the page for the statuses of services that weren't frozen by hand."""
 
 
 class Browsing:
@@ -71,7 +71,7 @@ class Browsing:
         wait_until(lambda: text in self.text(name), f"{text!r} in {name}")
 
     def button(self, parent: str, word: str) -> Any:
-        """The button below a parent whose text has this word, and that may be pressed."""
+        """The enabled button below a parent whose text has this word."""
 
         def found() -> Any:
             for each in self.driver.find_elements("css selector", f"#{parent} button"):
@@ -82,7 +82,7 @@ class Browsing:
         return wait_until(found, f"the button {word!r}")
 
     def press(self, parent: str, word: str) -> str:
-        """Presses such a button; again where the page moved it away just then. Gives its first line."""
+        """Presses such a button, and repeats this if the page has just moved it. Returns its first line."""
 
         def pressed() -> str:
             button = self.button(parent, word)
@@ -96,7 +96,7 @@ class Browsing:
         return str(wait_until(pressed, f"the button {word!r} in its place"))
 
     def service(self, name: str) -> str:
-        """What the page says of a service."""
+        """The texts of the page on a service."""
         return str(self.find(f"#services li[data-key='{name}']").text)
 
     def wait_for_service(self, name: str, text: str) -> None:
@@ -118,7 +118,7 @@ class Browsing:
         wait_until(lambda: not self.find("#dialog").is_displayed(), "the end of the dialog")
 
     def complaints(self) -> list[str]:
-        """What the browser complained of."""
+        """The complaints of the browser."""
         return [each["message"] for each in self.driver.get_log("browser")]
 
 
@@ -135,14 +135,14 @@ def browsing(driver: Any, at_end: AsyncExitStack) -> Browsing:
 
 
 class ThePage(Browsing):
-    """With devices that are played on the page."""
+    """The page, with devices that are simulated on it."""
 
     def __init__(self, driver: Any, at_end: AsyncExitStack) -> None:
         super().__init__(driver, at_end)
         self.home = Played()
         self.at_end.callback(self.home.close)
         self.home.begin()
-        # The page of the test before goes on asking for its server, which is gone: leave it first.
+        # The page of the previous test still asks for its server, which is gone. It is left first.
         self.driver.get("about:blank")
         self.driver.get_log("browser")
         self.open(self.home)
@@ -294,7 +294,7 @@ def test_it_connects_again(page: ThePage) -> None:
 
 
 def test_each_event_is_shown_once(page: ThePage) -> None:
-    """Also where the page connects again, and is sent all of them."""
+    """This also holds if the page connects again, and is sent all of them."""
     page.press("actions", "brighten")
     page.press("outcomes", "window is open")
     page.wait_for_text("events", "window served brighten")
@@ -393,7 +393,7 @@ def test_another_page_changes_nothing(page: ThePage) -> None:
 
 
 def test_what_looks_like_markup_is_text(browsing: Browsing) -> None:
-    """The name of a document, what a device answers, and a name that somebody types."""
+    """This holds for the name of a document, the answer of a device, and a name that is typed."""
     home = Played(name="<b>home.json")
     browsing.at_end.callback(home.close)
     home.begin()
@@ -422,7 +422,7 @@ def test_names_that_javascript_has_too(browsing: Browsing) -> None:
         text = text.replace(f'"{name}"', f'"{other}"')
     (home.folder / "home.json").write_text(text, encoding="utf-8")
     home.begin()
-    browsing.driver.get("about:blank")  # The page of the test before complains that its server is gone.
+    browsing.driver.get("about:blank")  # The page of the previous test complains that its server is gone.
     browsing.driver.get_log("browser")
     browsing.open(home)
     browsing.find("#drawing summary").click()
@@ -473,7 +473,7 @@ def test_titles_and_words_stand_above_the_names(browsing: Browsing) -> None:
 FRAME = f"<iframe id='frame' src='{{}}/?token={TOKEN}' width='900' height='700'></iframe>"
 
 
-# A card of another page that shows the home in a frame.
+# A card on another page, with the home in a frame.
 
 
 def framed(browsing: Browsing, port: int, allowed: bool) -> None:
@@ -536,11 +536,11 @@ def test_a_token_is_needed(browsing: Browsing) -> None:
     browsing.wait_for_text("target", "It is bright.")
 
 
-# The home to try: a broker, and devices that fail.
+# The demo home: a broker, and devices that fail.
 
 
 def agrees(browsing: Browsing, home: Running) -> bool:
-    """Whether the page says what the state says."""
+    """Whether the page agrees with the state."""
     state = home.state()
     return (
         f"It is {state['target']['state']}." in browsing.text("target")

@@ -1,4 +1,4 @@
-"""Polls: which answers and errors count, and that no error ends them."""
+"""Polls: the answers and errors that count. No error ends a poll."""
 
 from __future__ import annotations
 
@@ -18,7 +18,7 @@ CALLED = "called"
 
 
 class Polled:
-    """A device with these answers and errors to polls, which notes what the poll makes of them."""
+    """A device with these answers and errors to polls. It records the reports of the poll."""
 
     def __init__(self, *answers: str | Exception) -> None:
         self.answers = list(answers)
@@ -40,7 +40,7 @@ class Polled:
         return Answer(answer) if answer else None
 
     async def run(self) -> list[str]:
-        """What is made of all answers."""
+        """Polls the device until all answers are used, and returns the reports."""
         work = poll(
             0.0,
             self.told,

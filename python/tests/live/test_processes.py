@@ -1,4 +1,4 @@
-"""Commands that a home leaves at work when it is killed, and the next homes."""
+"""Commands that are at work when their home is killed, and the next homes."""
 
 from __future__ import annotations
 
@@ -21,7 +21,7 @@ from .machinery import PATIENCE
 from .test_commands import Heard
 
 NUMBER = 1_764_000_000_000_007
-"""The number of a call, as large as those of a home are."""
+"""The number of a call, as large as those of a home."""
 
 
 @pytest.fixture
@@ -33,7 +33,7 @@ def started(tmp_path: Path) -> Iterator[list[subprocess.Popen[bytes]]]:
 
 
 def with_group(process: subprocess.Popen[bytes]) -> None:
-    """Ends a process with all that it started."""
+    """Ends a process with all processes that it started."""
     try:
         os.killpg(process.pid, signal.SIGKILL)
     except ProcessLookupError:
@@ -42,14 +42,14 @@ def with_group(process: subprocess.Popen[bytes]) -> None:
 
 
 def leave(folder: Path, started: list[subprocess.Popen[bytes]], *words: str) -> subprocess.Popen[bytes]:
-    """Starts a command as a home does that is killed then: of the home nothing is left."""
+    """Starts a command as a home does that is then killed. Nothing of the home is left."""
     with Processes(folder / "commands").at_work(NUMBER) as file:
         started.append(subprocess.Popen(words, pass_fds=(file,), start_new_session=True))
     return started[-1]
 
 
 def test_each_later_home_sees_it(tmp_path: Path, started: list[subprocess.Popen[bytes]]) -> None:
-    """Also one that begins after another one was ended while it waited."""
+    """So does a home that begins after another one was ended while it waited."""
     command = leave(tmp_path, started, "sleep", "1000")
     for _ in range(3):
         home = Processes(tmp_path / "commands")
@@ -69,7 +69,7 @@ def test_it_is_ended_at_its_deadline(tmp_path: Path, started: list[subprocess.Po
 
 
 def test_it_is_ended_behind_a_link(tmp_path: Path, started: list[subprocess.Popen[bytes]]) -> None:
-    """The folder of the store has another name, too."""
+    """The folder of the store also has another name."""
     (tmp_path / "real").mkdir()
     (tmp_path / "linked").symlink_to("real")
     command = leave(tmp_path / "linked", started, "sleep", "1000")
@@ -87,7 +87,7 @@ def test_what_a_command_left_running_is_not_its_work(tmp_path: Path, started: li
     assert command.wait(PATIENCE) == 0
     home = Processes(tmp_path / "commands")
     asyncio.run(asyncio.wait_for(home.end(NUMBER, 0.0), PATIENCE))
-    os.killpg(command.pid, 0)  # It still runs.
+    os.killpg(command.pid, 0)  # The command still runs.
 
 
 def test_nothing_is_waited_for_if_there_is_nothing(tmp_path: Path) -> None:
@@ -153,7 +153,7 @@ echo on
 
 
 def test_a_command_writes_where_the_unit_lets_it(tmp_path: Path, monkeypatch: pytest.MonkeyPatch) -> None:
-    """It runs in the folder of the home file, and finds the folder of the unit in its environment."""
+    """It runs in the folder of the home file. Its environment has the folder of the unit."""
     folder, state = tmp_path / "home", tmp_path / "state"
     folder.mkdir()
     state.mkdir()

@@ -1,4 +1,4 @@
-"""What `docs/LIVE.md` promises at a kill: each row of its table has tests, which are named here."""
+"""The promises of `docs/LIVE.md` for kills. Each row of its table has tests, which are named here."""
 
 from __future__ import annotations
 

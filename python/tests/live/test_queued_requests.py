@@ -1,4 +1,4 @@
-"""Requests over MQTT that the broker takes while the home is away: with a key each is served once."""
+"""Requests over MQTT that the broker receives while the home is away. Each with a key is served once."""
 
 from __future__ import annotations
 
@@ -25,7 +25,7 @@ from .test_devices import CYCLE
 from .world import HttpDevices, World
 
 REQUESTS = 200
-"""How many requests come while the home is away."""
+"""The number of requests that come while the home is away."""
 
 HOME = """
 document = "{document}"
@@ -45,7 +45,7 @@ seconds = {seconds}
 
 
 class Person:
-    """One who makes requests at QoS 1, and has the answers by their ids."""
+    """Makes requests at QoS 1, and records the answers by their ids."""
 
     def __init__(self, port: int) -> None:
         self.answers: dict[Any, list[dict[str, Any]]] = {}
@@ -63,7 +63,7 @@ class Person:
         self.answers.setdefault(value["id"], []).append(value)
 
     def ask(self, number: int, action: str, **more: Any) -> None:
-        """Makes a request. The broker has it then."""
+        """Makes a request, and waits until the broker has it."""
         value = {"id": number, "action": action, **more}
         self.client.publish("roman/requests", json.dumps(value), qos=1).wait_for_publish(PATIENCE)
 
@@ -107,7 +107,7 @@ def house(tmp_path: Path) -> Iterator[House]:
 
 
 def test_each_is_served_once_though_the_home_is_killed(house: House) -> None:
-    """Also while it serves what the broker kept."""
+    """It is also killed while it serves the kept requests."""
     house.live.kill()
     for number in range(REQUESTS):
         house.person.ask(number, CYCLE[number % 4], key=str(number))
@@ -120,7 +120,7 @@ def test_each_is_served_once_though_the_home_is_killed(house: House) -> None:
     assert [action for _, action in house.world.played] == [CYCLE[each % 4] for each in range(REQUESTS)]
     assert house.world.wrong == []
     assert {each["status"] for answers in house.person.answers.values() for each in answers} == {200}
-    house.person.ask(REQUESTS, "brighten")  # Now the home is there, and this needs no key.
+    house.person.ask(REQUESTS, "brighten")  # The home is connected now, so this needs no key.
     house.answered(range(REQUESTS, REQUESTS + 1))
     assert house.person.answers[REQUESTS][0]["status"] == 200
 
@@ -156,7 +156,7 @@ def test_what_is_for_another_time_is_not_served(house: House) -> None:
 
 
 def test_a_home_without_a_store_has_none_kept(tmp_path: Path) -> None:
-    """It doesn't know which keys it has served."""
+    """It doesn't know the keys that it has served."""
     house = House(tmp_path, "")
     try:
         house.live.kill()
@@ -185,10 +185,10 @@ def test_how_old_a_request_may_be(tmp_path: Path) -> None:
     keeping = Keeping(heard, clock)
     mark = keeping.begin(True)
     assert mark is not None
-    assert keeping.request({"key": "k"}).first_age == math.inf  # Nobody knows since when the home was away.
+    assert keeping.request({"key": "k"}).first_age == math.inf  # It isn't known how long the home was away.
     assert keeping.request({"key": "k", "sent": clock.now - 7}).first_age == 7
     keeping.note()
-    assert heard.time == -math.inf  # What was kept hasn't come yet.
+    assert heard.time == -math.inf  # The kept requests haven't come yet.
     assert not keeping.hear({"action": "brighten"})
     assert keeping.hear({"mark": "of another connection"}) and keeping.is_draining
     assert keeping.hear(mark) and not keeping.is_draining
@@ -200,7 +200,7 @@ def test_how_old_a_request_may_be(tmp_path: Path) -> None:
     assert again.request({"key": "k"}).first_age == 100 + SLACK
     assert again.begin(False) is None  # The broker has kept nothing.
     assert again.request({"key": "k"}).first_age == 0
-    clock.now -= 1000  # A clock that was set back makes no request young.
+    clock.now -= 1000  # A clock that was set back doesn't make a request young.
     back = Keeping(LastHeard(tmp_path / "heard", clock), clock)
     assert back.begin(True)
     assert back.request({"key": "k"}).first_age == math.inf
@@ -215,7 +215,7 @@ def test_it_was_sent_at_no_time(tmp_path: Path, sent: str) -> None:
 
 
 async def test_a_message_that_can_not_be_handled() -> None:
-    """It is acknowledged, and the connection goes on. Otherwise the broker would send it again and again."""
+    """It is acknowledged, and the connection continues. Otherwise the broker would send it repeatedly."""
     heard: list[bytes] = []
 
     def hear(payload: bytes, comes_again: bool, acknowledge: Callable[[], None]) -> None:
@@ -242,7 +242,7 @@ def test_a_request_is_late_after_a_second_at_least() -> None:
 
 
 def test_a_retained_environment_is_heard_at_the_start(house: House) -> None:
-    """It is a state, and no request. What isn't retained is lost."""
+    """It is a state, and not a request. If it isn't retained, it is lost."""
     house.world.environment = "dusk"
     house.live.kill()
     for state, retain in (("dusk", True), ("day", False)):
@@ -254,7 +254,7 @@ def test_a_retained_environment_is_heard_at_the_start(house: House) -> None:
     until(lambda: house.live.state()["environment"] == "dusk", "dusk")
     house.answered(range(1))  # The broker had kept it for the session.
     house.live.stop()
-    house.live.start()  # Now it is for another time.
+    house.live.start()  # It is out of date now.
     house.person.ask(1, "boil", key="1")
     house.answered(range(2))
     assert [[each["status"] for each in house.person.answers[number]] for number in range(2)] == [[200], [200]]

@@ -67,7 +67,7 @@ def test_they_are_called_in_the_thread_of_the_home(tmp_path: Path) -> None:
             assert {each.timeout for each in home.fleet.devices.values()} == {None}
             assert (await home.requests.serve("brighten"))["served_by"] == "window"
             assert (await home.requests.serve("boil"))["served_by"] == "kettle"
-            # SystemExit is a failure of the device alone.
+            # SystemExit is only a failure of the device.
             with pytest.raises(NoComposition):
                 await home.requests.serve("pour")
             assert home.registry["kettle"].last_error == "raised SystemExit('stuck')"

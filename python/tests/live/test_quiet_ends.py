@@ -1,4 +1,5 @@
-"""A home ends with its devices and its program in any state: asyncio has no error to report that nobody looked at."""
+"""A home ends with its devices and its program in any state. asyncio never reports an error that was never
+retrieved."""
 
 from __future__ import annotations
 
@@ -22,7 +23,7 @@ from .played import Playhouse, until
 from .test_commands import Heard
 
 DEAF = "#!/bin/sh\nread line\nexec sleep 600\n"
-"""A command that reads one line, and no other."""
+"""A command that reads only one line."""
 
 
 def test_a_kept_command_that_dies_before_it_has_read_a_line(tmp_path: Path) -> None:

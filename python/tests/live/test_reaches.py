@@ -1,5 +1,4 @@
-"""How devices are reached, at the edges: too much output, secrets in a URL, connections that are gone, and
-functions that hang."""
+"""Edge cases of reaching devices: too much output, secrets in a URL, lost connections, and functions that hang."""
 
 from __future__ import annotations
 
@@ -40,7 +39,7 @@ from .test_commands import Heard
 CALL = Call("lamp", "brighten", "brighten", 1)
 
 LONG = 3600
-"""How many seconds a process runs that isn't waited for."""
+"""The number of seconds for which a process runs that isn't waited for."""
 
 
 async def run_one(script: str) -> Answer | None:
@@ -51,7 +50,7 @@ async def run_one(script: str) -> Answer | None:
 
 
 async def test_one_that_leaves_something_running() -> None:
-    """Its answer is there though the other process still has its output."""
+    """Its answer comes, although the other process still has its output."""
     script = f"import subprocess; left = subprocess.Popen(['sleep', '{LONG}']); print('on', left.pid)"
     answer = await run_one(script)
     assert answer is not None and answer.environment is not None
@@ -71,7 +70,7 @@ async def test_one_that_complains_a_lot() -> None:
 
 
 class Unended:
-    """Commands that run for another user, as by sudo, so that no signal reaches them."""
+    """Commands that run for another user, as by sudo, so signals can't reach them."""
 
     def __init__(self, folder: Path, at_end: AsyncExitStack) -> None:
         self.folder = folder
@@ -81,7 +80,7 @@ class Unended:
             at_end.callback(patch.stop)
 
     def entry(self, lines: bool) -> CommandReach:
-        """One that makes a file `begun`, and answers once there is a file `go`."""
+        """The entry of a command that creates a file `begun`, and answers when there is a file `go`."""
         script = "import pathlib, sys, time\n"
         script += "for _ in sys.stdin if len(sys.argv) == 1 else '?':\n"
         script += "    pathlib.Path('begun').touch()\n"
@@ -90,7 +89,7 @@ class Unended:
         return CommandReach((sys.executable, "-c", script), lines, self.folder)
 
     async def given_up(self, device: Reach) -> None:
-        """It is given up, and asked again before and after it has ended."""
+        """Gives up the command, and asks it again before and after it has ended."""
         asking = asyncio.ensure_future(device.ask(1, CALL))
         while not (self.folder / "begun").exists():
             await asyncio.sleep(0.01)
@@ -161,7 +160,7 @@ async def test_why_an_encrypted_connection_is_not_made(at_end: AsyncExitStack, t
 
 
 async def test_each_call_has_its_connection(at_end: AsyncExitStack) -> None:
-    """The device answers once on a connection, and is silent on it from then on."""
+    """The device answers once on a connection, and is silent on it after that."""
 
     async def serve(reader: asyncio.StreamReader, writer: asyncio.StreamWriter) -> None:
         await reader.readuntil(b"\r\n\r\n")
@@ -178,7 +177,7 @@ async def test_each_call_has_its_connection(at_end: AsyncExitStack) -> None:
 
 
 async def test_a_compressed_answer_stays_small(at_end: AsyncExitStack) -> None:
-    """The device compresses though it wasn't asked to."""
+    """The device compresses its answer unasked."""
     body = gzip.compress(b" " * 50_000_000)
     assert len(body) < LONGEST_ANSWER
     asked = []
@@ -210,7 +209,7 @@ async def test_a_compressed_answer_stays_small(at_end: AsyncExitStack) -> None:
     ],
 )
 async def test_what_a_device_says_is_one_short_line(caplog: pytest.LogCaptureFixture, text: str, shown: str) -> None:
-    """In an error, in a reading without a state, and in an event."""
+    """This holds in an error, in a reading without a state, and in an event."""
     with pytest.raises(DeviceFailed) as raised:
         answer_of({"error": text})
     assert str(raised.value) == shown
@@ -226,7 +225,7 @@ async def test_what_a_device_says_is_one_short_line(caplog: pytest.LogCaptureFix
 
 
 class Broker:
-    """A broker that takes nothing, and passes on what a device says."""
+    """A broker that ignores messages of the home, and passes on those of a device."""
 
     def subscribe(self, topic: str, listener: Callable[[bytes, bool], None]) -> None:
         self.say = listener

@@ -1,4 +1,4 @@
-"""What would help, as a home looks for it."""
+"""The remedies that a home looks for."""
 
 import os
 

@@ -31,7 +31,7 @@ from .test_commands import Heard
 
 
 def run(work: Coroutine[Any, Any, None]) -> None:
-    """Runs a test in a loop of its own."""
+    """Runs a test in an event loop of its own."""
 
     async def in_time() -> None:
         async with asyncio.timeout(PATIENCE):
@@ -52,7 +52,7 @@ def test_a_request_that_waits_expires(tmp_path: Path) -> None:
                 await home.requests.serve("boil", "k", expires=0.01)
             assert (await result(home, "boil", "k", True, expires=0.01))[0] == HTTPStatus.REQUEST_TIMEOUT
             window.gate.set()
-            # One whose turn has come expires no more.
+            # A request whose turn has come no longer expires.
             assert (await first)["served_by"] == "window"
             assert playhouse.devices["kettle"].calls == []
             assert (await home.requests.serve("boil", "k"))["served_by"] == "kettle"
@@ -84,7 +84,7 @@ def test_a_request_that_waits_can_be_cancelled(tmp_path: Path) -> None:
 
 
 def test_one_that_comes_between_two_turns_can_be_cancelled(tmp_path: Path) -> None:
-    """The turn is given to the one that waits, and not taken yet."""
+    """The turn is given to the waiting request, which hasn't taken it yet."""
 
     async def test() -> None:
         playhouse = Playhouse(tmp_path)
@@ -134,7 +134,7 @@ def test_what_is_wrong_with_a_key(tmp_path: Path) -> None:
 
 @pytest.mark.parametrize("told", [Answer("open", "day", True), Answer("shut", "day", False)])
 def test_a_late_device_is_asked_before_another_one(tmp_path: Path, told: Answer) -> None:
-    """A device that has done it serves the request, and one that hasn't lets another one do it."""
+    """If the device has done it, the request is served. If it hasn't, another device is asked."""
 
     async def test() -> None:
         playhouse = Playhouse(tmp_path, device='late = "doubt"')
@@ -164,7 +164,7 @@ def test_a_late_device_that_does_not_tell_is_in_doubt(tmp_path: Path) -> None:
 
 
 def test_a_device_that_failed_hands_the_request_on(tmp_path: Path) -> None:
-    """Without the word late, and for an error that the device told, nothing is in doubt."""
+    """Without the key `late`, and for an error that the device reported, no request is in doubt."""
 
     async def test() -> None:
         for name, device, error in (("a", "", DeviceLost("gone")), ("b", 'late = "doubt"', DeviceFailed("stuck"))):
@@ -223,7 +223,7 @@ def test_who_asked_and_why_this_service(tmp_path: Path) -> None:
 
 
 def test_a_service_frozen_by_hand_is_not_asked_back_after_a_start(tmp_path: Path) -> None:
-    """Also one that had failed before. One that failed alone is asked, and is back."""
+    """This also holds if it had failed before. A service that only failed is asked, and is back."""
 
     async def test() -> None:
         playhouse = Playhouse(tmp_path)
@@ -252,7 +252,7 @@ def test_no_lock_is_kept_for_an_unknown_service(tmp_path: Path) -> None:
 
 
 def test_each_run_has_a_mark_of_its_own(tmp_path: Path) -> None:
-    """So a listener of an earlier run is told all events, whatever the clock says."""
+    """So a listener of an earlier run is sent all events, whatever the clock shows."""
 
     async def test() -> None:
         playhouse = Playhouse(tmp_path)
@@ -296,7 +296,7 @@ lamp = Lamp()
     ],
 )
 def test_what_a_device_of_the_client_says_counts(tmp_path: Path, told: Any, answer: Answer | None) -> None:
-    """Its deadline, its words for a late call, and what it tells of a call."""
+    """This holds for its deadline, the meaning of a late call, and its answer about a call."""
     module = f"things_{abs(hash(str(tmp_path)))}"
     (tmp_path / f"{module}.py").write_text(MODULE, encoding="utf-8")
 
@@ -328,7 +328,7 @@ def test_the_home_file_has_the_last_word_on_a_deadline(tmp_path: Path) -> None:
 
 
 class Statuses(BaseHTTPRequestHandler):
-    """A lamp that answers with the status that its path says, or breaks the connection."""
+    """A lamp that answers with the status in its path, or breaks the connection."""
 
     def do_POST(self) -> None:
         self.rfile.read(int(self.headers["Content-Length"]))
@@ -348,7 +348,7 @@ class Statuses(BaseHTTPRequestHandler):
 
 @pytest.mark.parametrize("status", [200, 201, 202, 299, 300, 404, 500, 0])
 def test_the_status_of_an_http_device(status: int) -> None:
-    """Each of 200 to 299 is that of an answer. If the connection breaks, nobody knows what it did."""
+    """Each status from 200 to 299 is an answer. If the connection breaks, the result is unknown."""
     server = HTTPServer(("127.0.0.1", 0), Statuses)
     threading.Thread(target=server.serve_forever, daemon=True).start()
 

@@ -1,4 +1,4 @@
-"""The samples of devices as they are: a hundred requests to each, with failures of its simulated devices."""
+"""The samples of devices: each serves a hundred requests, with failures of its simulated devices."""
 
 from __future__ import annotations
 
@@ -27,7 +27,7 @@ NAMES = sorted(each.parent.name for each in SAMPLES.glob("*/devices.toml"))
 REQUESTS = 100
 FAILURES = 0.08
 SECONDS, LATE = 1.0, 1.6
-"""The deadline of each device here, and when a late one acts."""
+"""The deadline of each device here, and the time after which a late one acts."""
 
 
 def start_devices(file: Path, broker: int, *words: str) -> subprocess.Popen[bytes]:
@@ -86,7 +86,7 @@ class Sample:
         return self.file.environment.map
 
     def moves(self) -> list[tuple[str, str, str]]:
-        """What the devices did: each device with its state, and by what it came there. A device that is on its way has
+        """The moves of the devices: each device with its state, and the cause of its move. A device that is moving has
         no state."""
         lines = [json.loads(line) for line in self.log.read_text(encoding="utf-8").splitlines()]
         found = []
@@ -98,7 +98,7 @@ class Sample:
         return found
 
     def agrees(self) -> bool:
-        """Whether all services are ready, and are where their devices are, as is the environment."""
+        """Whether all services are ready, and have the states of their devices, as the environment has."""
         last = {device: state for device, state, _ in self.moves()}
         state = self.live.state()
         where = {each["name"]: each["state"] for each in state["services"]}
@@ -123,8 +123,8 @@ def sample(request: pytest.FixtureRequest, tmp_path: Path) -> Iterator[Sample]:
 
 
 def offered(sample: Sample, chance: random.Random) -> list[str]:
-    """The actions that are offered now. If there are none, someone helps by hand now and then: as a remedy says, or
-    else moves a service towards its first state."""
+    """The actions that are offered now. If there are none, a person sometimes helps by hand: by a remedy, or by moving
+    a service towards its first state."""
     state = sample.live.state()
     actions = [each["action"] for each in state["actions"] if each["offered"]]
     if not actions and chance.random() < 0.05:
@@ -137,8 +137,8 @@ def offered(sample: Sample, chance: random.Random) -> list[str]:
 
 
 def test_a_hundred_requests_with_failures(sample: Sample) -> None:
-    """Each state in which a request was served is one that its device came to, by a command or by hand. A device that
-    fails at a command may come by hand to the state that the request leads to, and then it has served the request."""
+    """Each state after a request is one that its device has reached, by a command or by hand. A device that fails at a
+    command may be moved by hand to the state after the request, and then it has served the request."""
     chance = random.Random(49)
     devices = list(tomllib.loads((sample.folder / "devices.toml").read_text(encoding="utf-8")))
     served: dict[str, list[str]] = {device: [] for device in devices}
@@ -174,7 +174,7 @@ def test_the_home_file_is_right(name: str) -> None:
 
 
 def test_the_plug_of_the_guide(tmp_path: Path) -> None:
-    """The ten lines with which the guide begins, at a simulated plug."""
+    """The ten lines with which the guide begins, with a simulated plug."""
     guide = (TOP / "docs" / "GUIDE.md").read_text(encoding="utf-8")
     home = re.search(r"^```toml\n(document.*?)^```$", guide[guide.index("### Your own plug") :], re.M | re.S)
     assert home is not None and len(home[1].splitlines()) == 10

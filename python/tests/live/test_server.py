@@ -1,4 +1,4 @@
-"""The HTTP API: who may, what it refuses, its events and figures, and a full disk."""
+"""The HTTP API: access, refusals, events, figures, and a full disk."""
 
 import contextlib
 import http.client
@@ -50,7 +50,7 @@ DEVICES = "".join(
 
 
 class Stranger(BaseHTTPRequestHandler):
-    """A server that is no home."""
+    """A server that isn't a home."""
 
     def log_message(self, *words: Any) -> None:
         pass
@@ -251,7 +251,7 @@ def test_answers_to_requests_have_the_head_of_all_others(home: Api) -> None:
 
 
 def test_a_body_that_waits_for_its_turn(home: Api) -> None:
-    """It is wanted if the request may be made."""
+    """It is asked for only if the request is allowed."""
     body = b'{"action": "brighten"}'
     for host, first in (("evil.example", b"HTTP/1.1 403 Forbidden"), ("localhost", b"HTTP/1.1 100 Continue")):
         head = (
@@ -397,7 +397,7 @@ def test_the_token(guarded: Token) -> None:
 
 
 class FullDisk(Served):
-    """A journal on a disk that is full after a while: no device is asked unless that is on the disk."""
+    """A journal on a disk that is full after a while. No device is asked unless the call is on the disk."""
 
     journal = '[journal]\npath = "journal"\n'
 
@@ -405,7 +405,7 @@ class FullDisk(Served):
         self.live.start()
 
     def limit(self, size: int) -> None:
-        """Lets no file of it grow beyond that size."""
+        """Limits the size of its files."""
         limits = (size, resource.RLIM_INFINITY)
         resource.prlimit(self.live.process.pid, resource.RLIMIT_FSIZE, limits)
 
@@ -437,8 +437,8 @@ def test_it_goes_on_when_there_is_room(full: FullDisk) -> None:
 
 
 def test_what_a_person_does_meanwhile_counts(full: FullDisk) -> None:
-    """One that is frozen by hand stays frozen after the next start, and one that is thawed by hand is held no
-    more."""
+    """A service that is frozen by hand stays frozen after the next start. One that is thawed by hand is no longer
+    held."""
     assert full.live.post("/services/window/freeze", {})[0] == 200
     full.limit(0)
     assert full.live.post("/services/ceiling/freeze", {})[0] == 503

@@ -1,4 +1,4 @@
-"""roman-live as systemd runs it: it says when it is ready, that it is alive, that it ends, and what is how bad."""
+"""roman-live under systemd: its notices of being ready, alive and about to end, and the priorities of its messages."""
 
 import configparser
 import logging
@@ -24,7 +24,7 @@ from .machinery import PATIENCE, Live, until
 
 
 class Systemd:
-    """What listens on NOTIFY_SOCKET. It always does, since the socket holds a few messages only."""
+    """Listens on NOTIFY_SOCKET. It listens all the time, because the socket holds only a few messages."""
 
     def __init__(self, path: Path) -> None:
         self.heard: list[bytes] = []
@@ -79,11 +79,11 @@ def unit(name: str) -> configparser.ConfigParser:
 
 
 def test_how_it_ends_and_is_started_again() -> None:
-    """What a device does isn't cut short by a stop, and a wrong file isn't tried for ever."""
+    """A stop doesn't interrupt the action of a device, and a wrong home file isn't tried endlessly."""
     service = unit("roman-live.service")["Service"]
     assert service["KillMode"] == "process"
     assert service["RestartPreventExitStatus"] == str(USAGE)
-    assert 90 > PATIENCE_OF_THE_HOME  # That of systemd, before it kills.
+    assert 90 > PATIENCE_OF_THE_HOME  # systemd waits 90 seconds before it kills.
 
 
 def test_its_files() -> None:
@@ -105,13 +105,13 @@ def test_several_homes_have_nothing_in_common() -> None:
 
 @pytest.mark.skipif(shutil.which("systemd-analyze") is None, reason="there is no systemd")
 def test_what_it_may_do() -> None:
-    """systemd judges how far the units are shut off, from 0 to 10."""
+    """systemd rates the exposure of the units from 0 to 10."""
     for name in ("roman-live.service", "roman-live@.service"):
         words = ["systemd-analyze", "security", "--offline=true", "--threshold=20", "--no-pager"]
         subprocess.run([*words, str(TOP / "samples" / "live" / name)], check=True, capture_output=True)
 
 
-# systemd's journal reads the priority of a line in front of it.
+# systemd's journal reads the priority at the beginning of a line.
 
 
 def test_why_it_ends(tmp_path: Path) -> None:

@@ -1,4 +1,4 @@
-"""The start of a home: what comes before its lock, what it tells the program, and a program that is killed then."""
+"""The start of a home: its actions before the lock, its lines to the program, and a program that is killed then."""
 
 from __future__ import annotations
 
@@ -29,7 +29,7 @@ def lamp(action):
 
 
 def test_no_module_of_a_device_is_imported_before_the_lock(tmp_path: Path) -> None:
-    """It may open what the home that runs uses."""
+    """The module could open resources that the running home uses."""
     playhouse = Playhouse(tmp_path)
     (tmp_path / "unlocked.py").write_text(MODULE, encoding="utf-8")
     head = playhouse.file.read_text(encoding="utf-8").partition("[devices.window]")[0]
@@ -50,7 +50,7 @@ def test_no_module_of_a_device_is_imported_before_the_lock(tmp_path: Path) -> No
 
 
 def test_a_home_whose_store_was_removed_asks_no_device(tmp_path: Path) -> None:
-    """Another home may begin then, and is the only one."""
+    """Another home may begin then, and is the only one that asks devices."""
 
     async def test() -> None:
         first, second = Playhouse(tmp_path), Playhouse(tmp_path)
@@ -68,7 +68,7 @@ def test_a_home_whose_store_was_removed_asks_no_device(tmp_path: Path) -> None:
 
 
 def test_a_start_tells_the_program_as_much_after_many_requests_as_after_few(tmp_path: Path) -> None:
-    """The store has the present states. Nothing that led to them is told again."""
+    """The store has the present states, so earlier events aren't sent again."""
 
     async def test() -> None:
         playhouse = Playhouse(tmp_path)
@@ -102,7 +102,7 @@ for number, line in enumerate(sys.stdin.buffer, 1):
 
 
 def kill_program(playhouse: Playhouse, line: int, times: int) -> None:
-    """Has the program of a home killed at that line of its next runs."""
+    """Kills the program of a home at that line of its next runs."""
     folder = playhouse.file.parent
     killed = folder / "killed"
     values = {"python": sys.executable, "line": line, "times": times, "runs": folder / "runs", "program": PROGRAM}

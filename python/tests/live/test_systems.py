@@ -1,4 +1,4 @@
-"""Home Assistant and Node-RED as the guide's chapter writes them, played here, as the ceiling lamp of a home."""
+"""The configurations of Home Assistant and Node-RED in the guide's chapter, simulated as the ceiling lamp of a home."""
 
 from __future__ import annotations
 
@@ -19,7 +19,7 @@ from .machinery import PATIENCE, Mosquitto, free_port, until
 from .test_chapter import block
 
 REACH: Any = HomeFile.read(DEMO / "home.toml").devices["ceiling"].reach
-"""How the home to try reaches its ceiling lamp."""
+"""The reach of the ceiling lamp in the demo home."""
 
 NODE = """
 window.kept ??= {};
@@ -27,7 +27,7 @@ const flow = {get: name => window.kept[name], set: (name, value) => { window.kep
 const msg = {payload: JSON.parse(arguments[0])};
 return JSON.stringify(new Function("msg", "flow", arguments[1])(msg, flow).payload);
 """
-"""What Node-RED makes of a message, with a function between two nodes of MQTT that read and write objects."""
+"""Node-RED's result for a message, with a function between two MQTT nodes that read and write objects."""
 
 
 class Automation:
@@ -40,7 +40,7 @@ class Automation:
         self.published: dict[str, str] = {}
 
     def run(self, message: str) -> dict[str, str]:
-        """What it publishes when a message comes on its topic."""
+        """The messages that it publishes when a message comes on its topic."""
         self.published = {}
         self.steps(self.written["action"], {"payload_json": json.loads(message)})
         return self.published
@@ -72,7 +72,7 @@ class Automation:
 
 
 class Ceiling:
-    """The ceiling lamp at a broker. What it answers to a message is what `answer` makes of it."""
+    """The ceiling lamp at a broker. `answer` makes its answer to a message."""
 
     def __init__(self, port: int, answer: Callable[[str], str]) -> None:
         self.heard: list[Any] = []
@@ -126,7 +126,7 @@ class Lit(Running):
 
 
 def serves(at_end: AsyncExitStack, answer: Callable[[str], str]) -> None:
-    """What answers so is asked where the lamp is, and serves twice."""
+    """Checks that a lamp with this function is asked for its state, and serves twice."""
     home = Lit()
     at_end.callback(home.close)
     ceiling = Ceiling(home.broker.port, answer)

@@ -1,7 +1,7 @@
-"""Devices for the tests: what they did, where they are, and how they misbehave, over HTTP and MQTT.
+"""Simulated devices over HTTP and MQTT, with their calls, their states and their misbehaviour.
 
-Called as a program, this module is a device that is a command: `world.py URL WORD`, or `world.py URL` for
-one that reads lines.
+Run as a program, this module is a device that is a command: `world.py URL WORD`, or `world.py URL` for one that reads
+lines.
 """
 
 import json
@@ -25,10 +25,10 @@ Told = dict[str, Any]
 
 
 class World:
-    """What the services of a document did, and where they are. Each call is played once, however often it
-    is asked. `manners` has how a service misbehaves: `fail`, `hang`, `slow`, `late`, `twice`,
-    `wrong`, `junk`, `foreign`. Those in `mute` don't tell where they are. What hangs, is slow, late or mute does so
-    until `release` is set."""
+    """The calls that the services of a document carried out, and their states. Each call is carried out once, even if
+    it is asked again. `manners` has the misbehaviour of services: `fail`, `hang`, `slow`, `late`, `twice`, `wrong`,
+    `junk`, `foreign`. Services in `mute` don't report their states. A service that hangs, is slow, late or mute stays
+    so until `release` is set."""
 
     def __init__(self, document: "Document", seed: int = 0) -> None:
         self.document = document
@@ -48,7 +48,7 @@ class World:
         self.release = threading.Event()
 
     def serve(self, service: str, action: str, number: int | None) -> list[Told]:
-        """The answers to a call, one after the other; none where it hangs."""
+        """Yields the answers to a call. There are none if the service hangs."""
         manner = self.manners.get(service, "")
         with self.lock:
             self.asked.append((service, action))
@@ -72,7 +72,7 @@ class World:
         return [told, told] if manner == "twice" else [told]
 
     def play(self, service: str, action: str, number: int | None) -> Told:
-        """Has a service carry out an action."""
+        """Makes a service carry out an action."""
         with self.lock:
             if number is not None and number in self.done:
                 self.wrong.append(f"call {number} came twice")
@@ -97,7 +97,7 @@ class World:
             return told
 
     def tell(self, service: str, number: int | None) -> Told:
-        """Where a service is, and whether it did that call."""
+        """The state of a service, and whether it carried out a call."""
         if self.manners.get(service) == "hang" or service in self.mute:
             self.release.wait()
         with self.lock:
@@ -110,7 +110,7 @@ class World:
 
 
 class QuietServer(ThreadingHTTPServer):
-    """A server that says nothing of those who go away."""
+    """A server that doesn't report clients that go away."""
 
     daemon_threads = True
 
@@ -119,7 +119,7 @@ class QuietServer(ThreadingHTTPServer):
 
 
 class HttpDevices:
-    """All services of a world over HTTP: each at its name, `/window`."""
+    """All services of a world over HTTP, each at its name, such as `/window`."""
 
     def __init__(self, world: World) -> None:
         self.server = QuietServer(("127.0.0.1", 0), _handler(world))
@@ -127,7 +127,7 @@ class HttpDevices:
         threading.Thread(target=self.server.serve_forever, daemon=True).start()
 
     def close(self) -> None:
-        """Takes them away."""
+        """Ends the services."""
         self.server.shutdown()
         self.server.server_close()
 
@@ -163,8 +163,8 @@ def _handler(world: World) -> type:
 
 
 class MqttDevices:
-    """Services of a world over MQTT, asked on `NAME/ask`, answering on `NAME/answer`. Those with a `name` have
-    a session that stays while they are away."""
+    """Services of a world over MQTT. They are asked on `NAME/ask`, and answer on `NAME/answer`. If `name` is set, they
+    have a session that the broker keeps while they are away."""
 
     def __init__(self, world: World, port: int, services: list[str], name: str = "") -> None:
         self.world = world
@@ -183,7 +183,7 @@ class MqttDevices:
             raise TimeoutError("the broker doesn't answer")
 
     def listen(self, topic: str) -> None:
-        """Listens to one more topic, from when the broker knows of it."""
+        """Listens to a further topic, and waits until the broker has confirmed it."""
         self.subscribed.clear()
         self.client.subscribe(topic, 1)
         if not self.subscribed.wait(PATIENCE):
@@ -207,12 +207,12 @@ class MqttDevices:
             self.say(service, each)
 
     def say(self, service: str, told: Told, retain: bool = False) -> None:
-        """Has a service say something."""
+        """Makes a service publish a message."""
         data = json.dumps(told)
         self.client.publish(f"{service}/answer", data, qos=1, retain=retain).wait_for_publish(PATIENCE)
 
     def close(self, rudely: bool = False) -> None:
-        """Takes them away; rudely, so that the broker publishes their last will."""
+        """Disconnects the services. If `rudely`, the broker publishes their last will."""
         if rudely:
             self.client.loop_stop()
             self.client.socket().close()
@@ -222,7 +222,7 @@ class MqttDevices:
 
 
 def command(url: str, word: str) -> str:
-    """The line of a command: what the service at a URL answers."""
+    """The line of a command: the answer of the service at a URL."""
     number = os.environ.get("ROMAN_CALL")
     if word == "?":
         request = urllib.request.Request(url)

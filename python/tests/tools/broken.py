@@ -1,4 +1,4 @@
-"""Strategies of Hypothesis for documents with random faults, for the tests of what reads documents."""
+"""Hypothesis strategies for documents with random faults, for tests of readers of documents."""
 
 from __future__ import annotations
 
@@ -22,7 +22,7 @@ MEMBERS = ["rest", "rests", "frozne", "frozen", "state", "limit", "targets", "na
 EDITS = ("delete", "odd", "text", "copy", "insert", "member", "repeat", "version")
 
 many_documents = settings(max_examples=300, deadline=None, suppress_health_check=list(HealthCheck))
-"""How many documents a test tries."""
+"""The settings of tests with many documents."""
 
 
 class Broken(NamedTuple):
@@ -32,7 +32,7 @@ class Broken(NamedTuple):
     part: str
 
     def write(self, folder: Path) -> None:
-        """Writes the document and its part where a tool that runs in the folder finds them."""
+        """Writes the document and its part to a folder, in which a tool finds them."""
         (folder / "samples").mkdir(exist_ok=True)
         (folder / PART).write_bytes(self.part.encode("utf-8", "surrogatepass"))
         (folder / "broken.json").write_bytes(self.text.encode("utf-8", "surrogatepass"))
@@ -58,7 +58,7 @@ def broken_documents(draw: st.DrawFn) -> Broken:
 
 
 def written(draw: st.DrawFn, value: Any) -> str:
-    """The text of a value, in one of several forms, and sometimes with a fault of its own."""
+    """The text of a value in one of several forms, sometimes with a fault."""
     text = json.dumps(value, indent=draw(st.sampled_from((None, 1, "\t"))), ensure_ascii=draw(st.booleans()))
     fault = draw(st.sampled_from((*[""] * 20, *["lines"] * 5, *["edits"] * 5, "depth")))
     if fault == "lines":
@@ -102,6 +102,6 @@ def edit(draw: st.DrawFn, document: Any) -> None:
 
 
 def walk(value: Any) -> list[tuple[Any, Any]]:
-    """All places in a value: what holds them, and by which key."""
+    """All places in a value: their containers, and their keys."""
     keys: Any = value if isinstance(value, dict) else range(len(value)) if isinstance(value, list) else ()
     return [(value, key) for key in keys] + [place for key in keys for place in walk(value[key])]

@@ -9,13 +9,13 @@ from . import TOP
 
 @pytest.fixture
 def folder(tmp_path: Path, monkeypatch: pytest.MonkeyPatch) -> Path:
-    """A folder in which the test works."""
+    """A folder, which is the working folder of the test."""
     monkeypatch.chdir(tmp_path)
     return tmp_path
 
 
 @pytest.fixture
 def at_top(folder: Path, monkeypatch: pytest.MonkeyPatch) -> Path:
-    """The folder of the test, which works at the top of the repository."""
+    """A folder for the test, whose working folder is the top of the repository."""
     monkeypatch.chdir(TOP)
     return folder

@@ -1,4 +1,4 @@
-"""The tools as the tests call them, and documents with edits."""
+"""Runs the tools for tests, and makes documents with edits."""
 
 import os
 import subprocess
@@ -17,7 +17,7 @@ def tool(name: str, *words: str, text: str = "") -> "subprocess.CompletedProcess
 
 
 def edited(text: str, *edits: tuple[str, str]) -> str:
-    """A text in which each first word, which stands there once, is replaced by the second."""
+    """A text in which the first word of each pair is replaced by the second. It must be there once."""
     for old, new in edits:
         assert text.count(old) == 1, old
         text = text.replace(old, new)
@@ -25,7 +25,7 @@ def edited(text: str, *edits: tuple[str, str]) -> str:
 
 
 def system(target: str, environment: str = '"states": ["e", "f"], "otherwise": "stays"') -> str:
-    """A document with a service that does all that is asked."""
+    """A document with a service that can serve all requests."""
     steps = ", ".join(f'["x", "{action}", "x"]' for action in "abcd")
     behaviour = f'{{"name": "m", "count": 1, "steps": [{steps}]}}'
     return f'{{"roman": "short", "environment": {{{environment}}}, "behaviours": [{behaviour}], "target": {target}}}'

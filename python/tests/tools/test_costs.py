@@ -1,4 +1,4 @@
-"""Files of costs, and advice by the names of states."""
+"""Files of costs, and advice with the names of states."""
 
 import json
 import subprocess
@@ -56,7 +56,7 @@ def test_services_of_one_behaviour_cost_the_same(folder: Path) -> None:
 
 
 def test_refusals_of_costs_are_the_program_s(folder: Path) -> None:
-    """Beside a plain document the first error is the program's own."""
+    """For a plain document the first error is that of the program."""
     depot = str(TOP / "samples" / "depot.json")
     for text in (
         "{}", "[1]", '[["belt", "load"]]', '[[1, "load", 1]]', '[["blet", "load", 1]]', '[["belt", 1, 1]]',
@@ -70,7 +70,7 @@ def test_refusals_of_costs_are_the_program_s(folder: Path) -> None:
 
 
 def test_advice_names_states(folder: Path) -> None:
-    """The worst costs of the first requests are the program's own, and each value is one that it wrote."""
+    """The worst costs of the first requests are those of the program, and each value is one that it wrote."""
     words = (str(TOP / "samples" / "depot.json"), str(TOP / "samples" / "depot.costs"), "3")
     written = subprocess.run(
         [PROGRAM, "advise", *words], capture_output=True, text=True, timeout=400, check=True

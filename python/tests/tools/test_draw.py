@@ -1,4 +1,4 @@
-"""roman-draw: what stands in the drawings."""
+"""roman-draw: the content of the drawings."""
 
 import json
 import os
@@ -50,7 +50,7 @@ def titles(root: Any, kind: str) -> list[str]:
 
 
 def texts(root: Any) -> "Counter[str]":
-    """All texts of a drawing, word by word. Where they stand depends on Graphviz and its fonts."""
+    """All texts of a drawing, word by word. Their positions depend on Graphviz and its fonts."""
     return Counter(word for each in root.iter(SVG + "text") for word in (each.text or "").split())
 
 
@@ -190,7 +190,7 @@ def test_a_file_is_written(tmp_path: Path) -> None:
 
 
 def test_the_locale_does_not_matter() -> None:
-    """What is written is UTF-8, whatever the locale says; nor is a home needed."""
+    """The output is UTF-8 in any locale, and no home folder is needed."""
     words = [str(TOP / "tools/roman-draw"), "samples/workshop.json"]
     plain = {name: value for name, value in os.environ.items() if not name.startswith(("LC_", "LANG", "PYTHON"))}
     drawn = []
@@ -318,7 +318,7 @@ def test_the_related_pairs_and_the_edges_to_lost_ones() -> None:
 
 
 def test_each_pair_is_one_that_a_session_comes_to() -> None:
-    """From the start the program offers what the picture shows."""
+    """From the start, the program has the offers of the picture."""
     report = subprocess.run(
         [PROGRAM, "synth", "samples/home.json"], cwd=TOP, capture_output=True, text=True, timeout=400, check=False
     ).stdout

@@ -1,4 +1,4 @@
-"""roman-expand: what the short form stands for, its mistakes, and plans beside regular expressions."""
+"""roman-expand: the meaning of the short form, its mistakes, and plans compared with regular expressions."""
 
 import json
 import re
@@ -42,7 +42,7 @@ def run(*words: str, text: str = "") -> "subprocess.CompletedProcess[str]":
     return subprocess.run(words, input=text, capture_output=True, text=True, timeout=400, check=False)
 
 
-# Tests that write documents into a folder, and work there.
+# Tests that write documents to their working folder.
 
 
 def expand(document: dict[str, Any]) -> Any:
@@ -52,7 +52,7 @@ def expand(document: dict[str, Any]) -> Any:
 
 
 def environment(**environment: Any) -> Any:
-    """The plain environment of a short one, in which `a` and `b` are asked for in turn."""
+    """The plain environment of a short one, in which `a` and `b` are requested in turn."""
     machine = {"steps": [["x", "a", "y"], ["y", "b", "x"]]}
     behaviour = {"name": "m", "count": 1, **machine}
     return expand({"environment": environment, "behaviours": [behaviour], "target": machine})["environment"]
@@ -329,7 +329,7 @@ def test_random_plans_beside_regular_expressions() -> None:
     compare()
 
 
-# Each is shown where it stands in what the person wrote.
+# Each mistake is shown at its place in the short document.
 
 
 def test_each_at_its_place() -> None:
@@ -405,7 +405,7 @@ def test_a_plan_that_grows_too_large() -> None:
 
 
 def test_random_faults() -> None:
-    """Never a traceback, and what is expanded the program takes."""
+    """There is never a traceback, and the program accepts each document that is expanded."""
     taken: list[int] = []
     samples = [json.loads((SHORT / f"{name}.json").read_text(encoding="utf-8")) for name in ("home", "house")]
 

@@ -7,7 +7,7 @@ from .shell import CELL, SHORT, edited, system, tool
 
 
 def labels(dot: str, machine: str) -> dict[tuple[str, str], str]:
-    """The arrows of a machine with the words of their labels."""
+    """The arrows of a machine, with the words of their labels."""
     found = {}
     for one, other, label in re.findall(
         rf'"{machine} (\S+)" -> "{machine} (\S+)" \[label=<(.*?)>(?: style| arrowtail|\])', dot

@@ -1,4 +1,4 @@
-"""roman-lint: each refusal at its place, the warnings, and random faults beside the program's word."""
+"""roman-lint: each refusal at its place, the warnings, and random faults compared with the program's answers."""
 
 import json
 import os
@@ -21,8 +21,8 @@ from .shell import tool
 pytestmark = pytest.mark.usefixtures("folder")
 
 Row = tuple[str, str, str]
-"""A refusal without its document, a text of the sample, and what stands in its place: the faulty word between
-« and »."""
+"""A refusal without its document, a text of the sample, and the text that replaces it. The faulty word is between « and
+»."""
 
 TAP = '{"file": "tap.json"}'
 
@@ -32,7 +32,7 @@ def sample(name: str) -> str:
 
 
 def many(count: int, item: str) -> str:
-    """A list of so many items; `#` in them is their number."""
+    """A list of so many items. `#` in an item is its number."""
     return "[" + ", ".join(item.replace("#", str(number)) for number in range(count)) + "]"
 
 
@@ -57,7 +57,7 @@ def start_of(part: str, old: str) -> Iterator[Row]:
 
 
 def name_of(part: str, old: str, other: str) -> Iterator[Row]:
-    """The refusals of a name, where an earlier part has another one."""
+    """The refusals of a name, if an earlier part has another one."""
     yield f"missing {part} name 0", f'"name": "{old}"', '"note": 1'
     yield f"form {part} name 0", f'"name": "{old}"', '"name": «[]»'
     yield f"badname {part} name 0", f'"name": "{old}"', '"name": «"ça"»'
@@ -145,14 +145,14 @@ def of_home() -> Iterator[Row]:
 
 
 def of_members(member: str, part: str, step: str) -> Iterator[Row]:
-    """The refusals of a list of steps that is none, of one that is missing, and of one too long."""
+    """The refusals of a value that isn't a list of steps, of a missing list, and of a list that is too long."""
     yield f"missing {part} steps 0", member, '"note": 1'
     yield f"form {part} steps 0", member, '"steps": «"a"»'
     yield f"count {part} steps 0", member, f'"steps": «{many(16385, step)}»'
 
 
 def of_lamp() -> Iterator[Row]:
-    """The refusals that are told in a document whose lists stand in one line each."""
+    """The refusals in a document with one list in each line."""
     loops = '"steps": [["e", "on", "e"], ["e", "off", "e"]]'
     lamp = '"steps": [["off", true, "on", "on"], ["on", true, "off", "off"]]'
     yield from of_members(loops, "environment 0", '["e", "on", "e"]')
@@ -227,7 +227,7 @@ KINDS = {
     "missing form count badname repeated states|missing form unknown start|missing form unknown final|"
     "missing form count unknown choice steps",
 }
-"""All refusals of the format: of each part the kinds, then the list."""
+"""All refusals of the format, by the kinds and the lists of each part."""
 
 
 def all_refusals() -> set[tuple[str, str, str]]:
@@ -240,7 +240,7 @@ def all_refusals() -> set[tuple[str, str, str]]:
     return found
 
 
-# Tests that write documents into a folder, and work there.
+# Tests that write documents to their working folder.
 
 
 def write(name: str, text: str) -> None:
@@ -248,7 +248,7 @@ def write(name: str, text: str) -> None:
 
 
 def said() -> str:
-    """What the program says where it refuses."""
+    """The program's line if it refuses a document."""
     done = subprocess.run([PROGRAM, "synth", "s.json"], capture_output=True, text=True, timeout=400, check=False)
     return done.stdout.rstrip("\n") if done.returncode == 3 else ""
 
@@ -258,7 +258,7 @@ def errors() -> list[Finding]:
 
 
 def warnings(text: str) -> list[str]:
-    """The warnings of a document that the program takes: the word that is marked, and the message."""
+    """The warnings of a document that the program accepts: the marked word, and the message."""
     write("s.json", text)
     assert (said(), errors()) == ("", [])
     return [f"{marked(each)}: {each.message}" for each in lint("s.json")]
@@ -272,7 +272,7 @@ def marked(finding: Finding) -> str:
 
 
 def refused(text: str, row: Row, document: str = "s.json") -> tuple[str, str, str]:
-    """Checks that a text with the edit of a row is refused as it says, at the marked place. Gives the refusal's kind,
+    """Checks that a text with the edit of a row has the row's refusal at the marked place. Returns the refusal's kind,
     part and list."""
     line, old, new = row
     assert old in text
@@ -336,7 +336,7 @@ def test_all_errors_and_not_the_first_alone() -> None:
     ],
 )
 def test_one_mistake_is_one_error(old: str, new: str) -> None:
-    """A list that is wrong as a whole isn't told again by each of its names."""
+    """A list that is wrong as a whole isn't reported again for each of its names."""
     write("s.json", sample("home").replace(old, new))
     assert len(errors()) == 1
 
@@ -357,11 +357,11 @@ def test_a_part_file_that_is_not_there() -> None:
     assert "No such file" in errors()[0].message
 
 
-# What the program takes, and nobody means.
+# Documents that the program accepts, and that are probably not meant.
 
 
 def only(text: str, word: str, message: str) -> None:
-    """The document has that warning at that word, and no other."""
+    """Checks that the document has only this warning, at this word."""
     assert warnings(text) == [f"{word}: {message}"]
 
 
@@ -494,7 +494,7 @@ def test_more_cells_than_the_limit() -> None:
     assert warnings(text.replace("575", "576")) == []
 
 
-# The words, the statuses, and the forms in which it is shown.
+# The options, the statuses, and the forms of the output.
 
 
 WRONG = sample("home").replace('"start": "day"', '"start": "dya"')
@@ -559,7 +559,7 @@ def test_bytes_that_are_no_text() -> None:
         assert shown("--json", "s.json").returncode == 3
 
 
-# Documents with random faults: an error exactly where the program refuses, the first one the same.
+# Documents with random faults. There is an error exactly if the program refuses one, and the first error is the same.
 
 
 def test_an_error_where_the_program_refuses() -> None:

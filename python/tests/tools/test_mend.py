@@ -1,4 +1,4 @@
-"""tools/roman-mend: what would help, and which spare."""
+"""tools/roman-mend: the changes that help, and the spare services."""
 
 import json
 import os
@@ -11,7 +11,7 @@ from . import PROGRAM, TOP
 
 
 def mend(*words: str) -> "subprocess.CompletedProcess[str]":
-    """What the tool writes for these words."""
+    """Runs the tool with these arguments."""
     environment = {**os.environ, "ROMAN": PROGRAM}
     command = [str(TOP / "tools" / "roman-mend"), *words]
     return subprocess.run(command, cwd=TOP, env=environment, capture_output=True, text=True, timeout=400, check=False)

@@ -1,4 +1,4 @@
-"""What a person meets who models a system: each mistake is answered by a first line that names its cause and place."""
+"""Mistakes of a person who models a system. The first line of the answer to each names its cause and place."""
 
 import json
 import re
@@ -97,7 +97,7 @@ MISTAKES: dict[str, tuple[tuple[str, str], str, str]] = {
         " this step",
     ),
 }
-"""Documents with one mistake: the edit of the cell, the text that is marked, and the first line behind its place."""
+"""Documents with one mistake: the edit of the cell, the marked text, and the first line after its place."""
 
 
 @pytest.mark.parametrize("mistake", MISTAKES)
@@ -135,7 +135,7 @@ def test_the_drawing_shows_a_guard_as_it_is_written_and_that_it_is_wrong(folder:
 
 
 def answer(document: Any) -> str:
-    """What the program answers to a short document: `composition` or `none`."""
+    """The program's answer to a short document: `composition` or `none`."""
     Path("s.json").write_text(json.dumps(document), encoding="utf-8")
     checker = read("s.json")
     assert checker.document is not None, [each.heading for each in checker.findings]
@@ -157,7 +157,7 @@ WITHOUT: dict[str, Callable[[Any], object]] = {
     "gripper": lambda it: it["services"].pop(1),
     "shared": lambda it: it["behaviours"][2].update({"count": 1}),
 }
-"""Recipes, each with an edit that takes away what it is about."""
+"""Recipes, each with an edit that removes its essential part."""
 
 
 @pytest.mark.parametrize("name", RECIPES)
@@ -181,7 +181,7 @@ def offers_after(name: str, lines: str) -> str:
 
 
 def test_the_recipes_offers() -> None:
-    """What the guide says of them: the arm that can turn, and the drill that is hot."""
+    """The offers are those in the guide: the arm that can turn, and the drill that is hot."""
     assert offers_after("gripper", "do grip\n") == "offer new"
     for state, offer in (("hot", "offer drill"), ("cool", "offer drill clamp")):
         lines = f"do hold\nuse clamp\nsaw shut always\ndo drill\nuse drill\nsaw {state} always\ndo pause\n"

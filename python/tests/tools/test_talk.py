@@ -21,7 +21,7 @@ def environment(home: str) -> "dict[str, str]":
     return {**os.environ, "ROMAN": PROGRAM, "HOME": home, "XDG_STATE_HOME": home, "TERM": "dumb", "LC_ALL": "C.UTF-8"}
 
 
-# A session that comes in is shown beside its replies.
+# A session on the standard input is shown beside its replies.
 
 
 def echo(system: str, session: str) -> "subprocess.CompletedProcess[str]":
@@ -79,7 +79,7 @@ class Terminal:
         self.opening = self.until("> ")
 
     def until(self, end: str) -> str:
-        """What is written up to some text."""
+        """The output up to some text."""
         text, late = "", time.monotonic() + 400
         while not text.endswith(end) and time.monotonic() < late:
             if select.select([self.leader], [], [], 0.2)[0]:
@@ -97,14 +97,14 @@ class Terminal:
         return self.until("\n> ").split("\n", 1)[1].removesuffix("\n> ")
 
     def words_of_help(self) -> str:
-        """The first words of the lines that may come now."""
+        """The first words of the lines that are possible now."""
         lines = [line.split() for line in self.say("help").splitlines()]
         return " ".join(words[0] for words in lines if words[0] != "now:")
 
 
 @contextlib.contextmanager
 def opened(home: Path) -> Iterator[Terminal]:
-    """A talk on the workshop, with its history in this folder."""
+    """A session on the workshop, with its history in this folder."""
     leader, end = pty.openpty()
     words = [TALK, "samples/workshop.json"]
     running = subprocess.Popen(words, cwd=TOP, env=environment(str(home)), stdin=end, stdout=end, stderr=end)

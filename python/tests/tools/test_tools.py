@@ -1,4 +1,4 @@
-"""How the tools for documents end, where what they write or read makes trouble."""
+"""The ends of the tools for documents, if their input can't be read or their output can't be written."""
 
 import os
 import subprocess
@@ -12,7 +12,7 @@ TOOLS = ("roman-lint", "roman-expand", "roman-draw", "roman-talk", "roman-mend")
 
 
 def tool(name: str, system: str, output: Any) -> tuple[int, str]:
-    """The status of a tool, and what it says beside its output."""
+    """The status of a tool, and its standard error."""
     done = subprocess.run(
         [str(TOP / "tools" / name), system],
         cwd=TOP,
@@ -28,7 +28,7 @@ def tool(name: str, system: str, output: Any) -> tuple[int, str]:
 
 @pytest.mark.parametrize("name", TOOLS)
 def test_a_reader_that_went_away(name: str) -> None:
-    """They end without a word, as other filters do."""
+    """They end without a message, as other filters do."""
     reader, writer = os.pipe()
     os.close(reader)
     with os.fdopen(writer, "wb") as output:

@@ -1,4 +1,4 @@
-"""What roman-lint finds in the states that a target reaches, and what follows from it."""
+"""The findings of roman-lint in the states that a target reaches, and their consequences."""
 
 import json
 from pathlib import Path
@@ -13,7 +13,7 @@ from roman_tools.walk import Walk
 from . import TOP
 from .shell import CELL, edited, system, tool
 
-# What follows from a cause.
+# Consequences of a cause.
 
 
 def test_consequences_are_shown_on_demand(folder: Path) -> None:
@@ -87,7 +87,7 @@ def test_one_target_of_several_is_stuck(folder: Path) -> None:
     )
 
 
-# Guards that are meant to be false.
+# Guards that are intended to be false.
 
 
 @pytest.mark.parametrize("value", ["false", '"false"'])
@@ -97,7 +97,7 @@ def test_a_parameter_that_is_false_on_purpose(value: str, folder: Path) -> None:
 
 
 def test_a_state_of_a_behaviour_that_nothing_leaves(folder: Path) -> None:
-    """It is nearly another state: a letter is left out."""
+    """Its name is that of another state without a letter."""
     text = edited(
         CELL, ('"rolling", "stop", "still"', '"rolling", "stop", "stil"'), ('"limit": 500000', '"limit": 700000')
     )
@@ -107,7 +107,7 @@ def test_a_state_of_a_behaviour_that_nothing_leaves(folder: Path) -> None:
 
 
 def test_the_effort_for_consequences_is_bounded(folder: Path, monkeypatch: pytest.MonkeyPatch) -> None:
-    """In a large system fewer causes are tried, and all findings are shown."""
+    """In a large system, fewer causes are tried, and all findings are shown."""
     walks: list[object] = []
     begin = Walk.__init__
 

@@ -1,4 +1,4 @@
-"""Why there is no composition, by lint and by drawings."""
+"""The reason why there is no composition, by lint and by drawings."""
 
 from pathlib import Path
 
@@ -9,7 +9,7 @@ from .shell import CELL, SHORT, edited, tool
 
 @pytest.fixture
 def stuck_cell(folder: Path) -> str:
-    """The cell with a vehicle that has to be home before the target may be left."""
+    """The cell with a vehicle that has to be home if the target is final."""
     Path("cell.json").write_text(edited(CELL, (', "rests": false', "")), encoding="utf-8")
     return "cell.json"
 
