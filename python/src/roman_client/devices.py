@@ -72,8 +72,8 @@ class Device:
     """The base class of devices. A function can be a device, too, and `device` adds these attributes to it.
 
     `timeout` is the number of seconds that a call may take, None for no limit. A `repeatable` device may be asked
-    twice for the same call: a call that was interrupted is made again. With `late_is_doubt`, `state` asks a device
-    that is late or lost (`DeviceTimeout`, `DeviceLost`) whether it carried out the call. No other device is asked
+    twice for the same call: a call that was interrupted is made again. With `late_is_doubt`, a device that is late or
+    lost (`DeviceTimeout`, `DeviceLost`) is asked by `state` whether it carried out the call. No other device is asked
     before this is known.
     """
 

@@ -146,8 +146,8 @@ class Dispatcher:
         key: str | None = None,
         source: str | None = None,
     ) -> Done:
-        """Records that a request was served, with that outcome. No device is asked. This settles a request in doubt
-        that was carried out, once its service is thawed. A request with a key is counted once."""
+        """Records that a request was served, with that outcome. No device is asked. If a request in doubt turns out to
+        have been carried out, thaw its service, and record it. A request with a key is counted once."""
         return self._in_turn(lambda: self.core.record(action, service, (state, environment), key, source))
 
     # Changes.
@@ -190,8 +190,8 @@ class Dispatcher:
         self.change(protocol.jumpenv(environment))
 
     def post(self, event: Event[Value], cause: Frozen = Frozen.BY_HAND, source: str | None = None) -> Future[Value]:
-        """Makes a change, such as `protocol.jumpenv("dusk")`, without waiting for an open request. The change then
-        waits for its turn. Devices and policies may call this. `cause` is the reason of a freeze."""
+        """Makes a change, such as `protocol.jumpenv("dusk")`. If a request is open, this returns at once, and the
+        change waits for its turn. Devices and policies may call this. `cause` is the reason of a freeze."""
         future = self._posted(event, cause, source)
         if not self._is_inside():
             self._drain()

@@ -163,7 +163,7 @@ class InDoubt(RomanError):
 
 
 class KeyTaken(RomanError):
-    """The key of a request was used for another one."""
+    """The key of a request was used for another request, or for another outcome."""
 
 
 class InsideRequest(RomanError):

@@ -138,8 +138,7 @@ class Dispatcher:
         key: str | None = None,
         source: str | None = None,
     ) -> Done:
-        """Records that a request was served, with that outcome. No device is asked. This settles a request in doubt
-        that was carried out, once its service is thawed."""
+        """Records that a request was served, as `roman_client.Dispatcher.record` does."""
         return await self._in_turn(lambda: self.core.record(action, service, (state, environment), key, source))
 
     # Changes.

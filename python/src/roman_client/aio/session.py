@@ -108,8 +108,8 @@ class Session:
         return await self.tell(protocol.die(service))
 
     async def join(self, service: str, behaviour: str, state: str, *, loose: bool = False) -> Repair:
-        """Adds a service in a state of a behaviour of the catalogue. A loose service needn't rest when the target is
-        final."""
+        """Adds a service in a state of a behaviour of the catalogue. A `loose` service needn't be in a final state when
+        the target is."""
         return await self.tell(protocol.join(service, behaviour, state, loose=loose))
 
     async def jump(self, service: str, state: str) -> None:
