@@ -1,11 +1,11 @@
-/* Preloaded into the program: one call of the C library fails, the one whose number the environment gives.
+/* Preloaded into the program. One call of the C library fails, whose number is in the environment.
  *
- * FAIL_KIND is `memory`, `read` or `write`, FAIL_AT the call's number from 1 on. When the call has failed,
- * the file that FAIL_TOLD names is made, so that a test can tell a run that met its fault from one that
- * ended before. Standard error is left alone.
+ * FAIL_KIND is `memory`, `read` or `write`, and FAIL_AT is the call's number, counted from 1. When the call has failed,
+ * the file FAIL_TOLD is created. So a test can distinguish a run with its fault from one that ended before. Calls on
+ * standard error don't fail.
  *
- * Where FAIL_KIND is `short`, no read or write moves more than FAIL_AT bytes; where it is `interrupted`, each
- * second one is interrupted before it moves any. Neither is a fault. */
+ * If FAIL_KIND is `short`, no read or write moves more than FAIL_AT bytes. If it is `interrupted`, every second one is
+ * interrupted before it moves any. These aren't faults. */
 #define _GNU_SOURCE
 #include <dlfcn.h>
 #include <errno.h>
@@ -86,7 +86,7 @@ static int is_kind(const char *name)
     return kind != NULL && strcmp(kind, name) == 0;
 }
 
-/* How many of so many bytes a call may move. */
+/* The number of bytes that a call may move. */
 static size_t moved(size_t size)
 {
     const char *at = getenv("FAIL_AT");

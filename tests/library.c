@@ -1,8 +1,8 @@
-/* Calls libroman as its header allows, and in every wrong order that it allows: closed handles, handles of the
-   other kind, numbers that nothing has, empty and long slices, and each allocation failing in turn. Prints a line
-   and returns 1 at the first thing that isn't as roman.h says. The first word names samples/lamp.json. With `rounds N`
-   after it, it makes that many rounds of a request in place of the checks, and prints the seconds of one; with
-   `sessions N` it opens that many sessions of a document at once, and prints the seconds and the bytes of one. */
+/* Calls libroman as its header allows, including wrong use: closed handles, handles of the other kind, unused numbers,
+   empty and long slices, and each allocation failing in turn. Prints a line and returns 1 at the first deviation from
+   roman.h. The first argument names samples/lamp.json. With `rounds N` after it, makes that many rounds of a request
+   instead, and prints the seconds of one. With `sessions N`, opens that many sessions of a document at once, and prints
+   the seconds and the bytes of one. */
 #include <malloc.h>
 #include <pthread.h>
 #include <roman.h>
@@ -72,7 +72,7 @@ static void open_lamp(roman_session *session) {
     roman_clear(&shelf);
 }
 
-/* ---- what is checked */
+/* ---- checks */
 
 /* Each call refuses a handle without a session. */
 static void check_closed(roman_session *session) {
@@ -133,7 +133,7 @@ static void check_slices(void) {
     memset(line, 0, sizeof line);
     CHECK(roman_answer(&session, line, 256) == ROMAN_ERROR_LINE && says(&session, "error line\n"));
     CHECK(answer(&session, "do on\ndo off") == ROMAN_ERROR_LINE);
-    /* a reply in pieces is the reply */
+    /* the pieces of a reply make up the reply */
     CHECK(answer(&session, "report") == ROMAN_OK);
     char *whole = strdup(reply(&session));
     size_t length = strlen(whole);
@@ -149,7 +149,7 @@ static void check_slices(void) {
     roman_close(&session);
 }
 
-/* What is asked by numbers is what is asked by lines. */
+/* Calls by numbers have the same effect as the lines. */
 static void check_numbers(void) {
     roman_session session = ROMAN_NONE;
     uint8_t name[32];
@@ -228,7 +228,7 @@ static void check_threads(void) {
     roman_close(&session);
 }
 
-/* Each of the first allocations fails in turn: the call says so, and nothing is lost. */
+/* Each of the first allocations fails in turn. The call reports it, and no memory is lost. */
 static void check_memory(void) {
     static const char *lines[] = {"do on", "use l1", "saw on e", "report", "join l2 lamp off", "freeze l1", "explain", "die l2", "quit"};
     int refused = 0;

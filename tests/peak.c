@@ -1,7 +1,6 @@
-/* Runs the words that it is given, and writes the most memory that they had at once, in KB, on standard error.
+/* Runs a command, and writes the maximum of its memory in KB to standard error. Ends with the status of the command.
  *
- * It ends with their status. What a process had before it became another program counts as well, so a small
- * one has to be the one that forks. */
+ * The memory of a process before it becomes another program counts, too. So a small process has to fork it. */
 #define _DEFAULT_SOURCE
 #include <stdio.h>
 #include <sys/resource.h>
