@@ -171,7 +171,7 @@ class Dispatching(Generic[DeviceKind]):
             except Exception as error:
                 posted.settle(None, error)
             except BaseException as error:
-                posted.settle(None, error)
+                self.inbox.appendleft(posted)  # The next turn makes it.
                 interrupt = error
         trouble: BaseException | None = None
         if made:
@@ -179,14 +179,24 @@ class Dispatching(Generic[DeviceKind]):
                 trouble = yield from self._written()
             except GeneratorExit:
                 raise
+            except Exception as error:
+                trouble = error
             except BaseException as error:
-                trouble = interrupt = error
+                trouble = StoreFailed("the write was interrupted; it is repeated with the next one")
+                interrupt = interrupt or error
         for posted, value, notice in made:
-            if notice is not None:
-                yield Notify(notice)
+            try:
+                if notice is not None:
+                    yield Notify(notice)
+            except GeneratorExit:
+                raise
+            except BaseException as error:
+                interrupt = interrupt or error
             posted.settle(value, trouble)
         if interrupt is not None:
             raise interrupt
+        if trouble is not None and not isinstance(trouble, StoreFailed):
+            raise trouble
 
     def _written(self) -> Steps[StoreFailed | None]:
         """Writes what isn't written yet. Returns the error if this fails."""
@@ -346,8 +356,8 @@ class Dispatching(Generic[DeviceKind]):
                 raise
             except Exception as error:
                 return (yield from self._judge_error(call, error))
-            except BaseException as error:
-                yield from self._doubt(call, error)
+            except BaseException as interrupt:
+                yield from _after(interrupt, self._doubt(call, interrupt))
                 raise
             outcome = _outcome(answer)
             if outcome is None:
@@ -504,8 +514,11 @@ class Dispatching(Generic[DeviceKind]):
             return chosen
         except GeneratorExit:
             raise
-        except BaseException:
+        except Exception:
             yield from self._drop()
+            raise
+        except BaseException as interrupt:
+            yield from _after(interrupt, self._drop())
             raise
 
     def _delegated(self, action: str) -> str:
@@ -654,13 +667,15 @@ class Dispatching(Generic[DeviceKind]):
         """Ends the requests that waited for this write. If it failed, they are written later."""
         while self._owed:
             done, settle = self._owed.pop(0)
-            yield from self._tell_served(done)
-            if error is None:
-                settle(done, None)
-            else:
-                later = StoreFailed(str(error))
-                later.done = done
-                settle(None, later)
+            try:
+                yield from self._tell_served(done)
+            finally:
+                if error is None:
+                    settle(done, None)
+                else:
+                    later = StoreFailed(str(error))
+                    later.done = done
+                    settle(None, later)
 
     def _catch_up(self) -> Steps[None]:
         """Writes what couldn't be written before, since answers contain only what is on the disk."""
@@ -797,6 +812,17 @@ class Dispatching(Generic[DeviceKind]):
         yield Begin(self._stored())
         if self.under_way is not None:
             yield from self._recover(self.under_way)
+
+
+def _after(interrupt: BaseException, steps: Steps[None]) -> Steps[None]:
+    """Takes steps after an interrupt, which the caller raises. An error of these steps is logged, since it would hide
+    the interrupt. The next turn restores the session."""
+    try:
+        yield from steps
+    except GeneratorExit:
+        raise
+    except Exception as error:
+        LOG.warning("after %r: %r", interrupt, error)
 
 
 def _outcome(answer: Any) -> Outcome | None:
