@@ -542,8 +542,10 @@ class Dispatching(Generic[DeviceKind]):
             yield from self._surely(protocol.use(service))
             self.under_way = call
             move = yield from self._surely(protocol.saw(*outcome))
-        except (Refusal, TypeError, ValueError):
-            yield from self._drop()
+        except BaseException as error:
+            self.under_way = None  # No device was asked, so none is asked what became of it.
+            if isinstance(error, (Refusal, TypeError, ValueError)):
+                yield from self._abort()
             raise
         self.position = self.position._replace(calls=call.number)
         done = self._served(call, outcome, move)

@@ -6,7 +6,7 @@ from __future__ import annotations
 import asyncio
 import contextlib
 from collections.abc import Iterator
-from dataclasses import dataclass
+from dataclasses import dataclass, replace
 from functools import partial
 from typing import Any
 
@@ -142,6 +142,20 @@ def test_a_change_that_was_posted_is_made_after_an_interrupt() -> None:
 def note(settled: list[tuple[str, Any, BaseException | None]], line: str, value: Any, error: Any) -> None:
     """Notes how a posted change ended."""
     settled.append((line, value, error))
+
+
+@pytest.mark.parametrize("manner", [Manner(), Manner("mute", repeatable=True)], ids=["one that tells", "repeatable"])
+def test_a_record_that_is_interrupted_asks_no_device(manner: Manner) -> None:
+    """Its number isn't that of a call that the device has refused."""
+    manners = {"t1": manner, "t2": Manner()}
+    for run in interrupted(manners, (), 12):
+        run.begin()
+        with contextlib.suppress(Interrupted):
+            run.perform(run.core.turn(lambda: run.core.record("tick", "t1", ("b", "e"), "one")))
+        before, after = ("b", "a") if run.core.position.served else ("a", "b")
+        run.universe = run.universe.with_device("t1", replace(run.universe.devices["t1"], state=before))
+        assert run.take("request two") in (f"t1 {after}", "in doubt")
+        assert run.universe.devices["t1"].asked <= 1
 
 
 def test_a_request_whose_end_is_written_later_ends_despite_an_interrupt() -> None:
