@@ -5,6 +5,7 @@ from __future__ import annotations
 
 import asyncio
 import contextlib
+import threading
 from collections.abc import Iterator
 from dataclasses import dataclass, replace
 from functools import partial
@@ -13,6 +14,7 @@ from typing import Any
 import pytest
 
 from roman_client import StoreFailed, protocol
+from roman_client.aio.dispatcher import _in_a_thread
 from roman_client.core import Ahead, Posted
 from roman_client.effects import Commit, Restore
 from roman_client.position import Frozen
@@ -212,3 +214,25 @@ def test_a_cancelled_request_is_cancelled_though_an_error_follows(home: str, slo
         run = CancelledRun(beginning(manners), manners, REQUESTS, slow=slow, cancels=frozenset({at}))
         run.go()
         run.check()
+
+
+async def test_a_write_in_a_thread_ends_though_it_is_cancelled_twice() -> None:
+    """So no other write begins beside it."""
+    goes_on, ended = threading.Event(), threading.Event()
+
+    def write() -> None:
+        goes_on.wait()
+        ended.set()
+
+    writing = asyncio.create_task(_in_a_thread(write))
+    try:
+        for _ in range(3):
+            await asyncio.sleep(0)
+            writing.cancel()
+        await asyncio.sleep(0)
+        assert not writing.done()
+    finally:
+        goes_on.set()
+    with pytest.raises(asyncio.CancelledError):
+        await writing
+    assert ended.is_set()

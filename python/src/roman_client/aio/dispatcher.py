@@ -344,12 +344,16 @@ def _nothing() -> Steps[None]:
 async def _in_a_thread(write: Callable[[], None]) -> None:
     """Waits for the disk in a thread. A write that was begun ends, even if the task is cancelled."""
     work = asyncio.ensure_future(asyncio.get_running_loop().run_in_executor(None, write))
-    try:
-        await asyncio.shield(work)
-    except asyncio.CancelledError:
-        await asyncio.wait({work})
+    interrupt: asyncio.CancelledError | None = None
+    while not work.done():
+        try:
+            await asyncio.wait({work})
+        except asyncio.CancelledError as error:
+            interrupt = error
+    if interrupt is not None:
         work.exception()  # Marks the error as retrieved. The entries are written later.
-        raise
+        raise interrupt
+    work.result()
 
 
 async def _value(later: Awaitable[Value]) -> Value:
