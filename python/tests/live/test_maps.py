@@ -409,6 +409,55 @@ async def test_its_last_will(tmp_path: Path) -> None:
     assert plug.heard.told == [("gone",), ("late", "is available again")]
 
 
+async def test_what_it_said_before_it_was_gone_is_no_state(tmp_path: Path) -> None:
+    """Only a newer message has its state. One that the broker retains may be older than its absence."""
+    plug = await Plug.opened(tmp_path, MQTT.replace('ask_topic = "cmnd/plug/POWER"\n', ""))
+    plug.result("ON")
+    plug.broker.say("tele/plug/LWT", "Offline")
+    plug.result("ON", retained=True)
+    plug.broker.say("tele/plug/LWT", "Online")
+    told = asyncio.ensure_future(plug.reach.tell(None))
+    for _ in range(3):
+        await asyncio.sleep(0)
+    assert not told.done()
+    plug.result("OFF")
+    assert await told == await plug.reach.tell(None) == Answer("off")
+    assert plug.heard.told == [("moved", "on"), ("gone",), ("late", "is available again"), ("moved", "off")]
+
+
+async def test_what_it_says_before_it_is_available_again_is_its_state(tmp_path: Path) -> None:
+    plug = await Plug.opened(tmp_path, MQTT.replace('ask_topic = "cmnd/plug/POWER"\n', ""))
+    plug.broker.say("tele/plug/LWT", "Offline")
+    plug.result("ON")
+    plug.broker.say("tele/plug/LWT", "Online")
+    assert await plug.reach.tell(None) == Answer("on")
+
+
+async def test_what_the_broker_retains_counts_with_the_availability_that_it_retains(tmp_path: Path) -> None:
+    """As after the broker was gone. The state may come before the availability."""
+    plug = await Plug.opened(tmp_path, MQTT.replace('ask_topic = "cmnd/plug/POWER"\n', ""))
+    plug.broker.say("tele/plug/LWT", "Offline")
+    for there in ("Offline", "Online"):
+        plug.result("ON", retained=True)
+        plug.broker.say("tele/plug/LWT", there, retained=True)
+    assert plug.heard.told == [("gone",), ("late", "is available again"), ("moved", "on")]
+    assert await plug.reach.tell(None) == Answer("on")
+
+
+async def test_what_it_said_before_a_command_is_no_state(tmp_path: Path) -> None:
+    """Also if the map names the state after the command."""
+    text = MQTT.replace('ask_topic = "cmnd/plug/POWER"\n', "").replace('payload = "ON"', 'payload = "ON", state = "on"')
+    plug = await Plug.opened(tmp_path, text)
+    plug.result("OFF")
+    assert await plug.reach.ask(1, BRIGHTEN) == Answer("on")
+    told = asyncio.ensure_future(plug.reach.tell(None))
+    for _ in range(3):
+        await asyncio.sleep(0)
+    assert not told.done()
+    plug.result("ON")
+    assert await told == Answer("on")
+
+
 MQTT_SENSOR = """
 document = "home.json"
 [mqtt]

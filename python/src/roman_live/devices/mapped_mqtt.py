@@ -28,6 +28,7 @@ class MappedMqtt(MappedReach):
         self._broker = broker
         self._there: bool | None = None
         self._last: Reading | None = None
+        self._retained: Reading | None = None
         self._expected: Expected | None = None
         self._told: set[asyncio.Future[Answer]] = set()
 
@@ -51,6 +52,7 @@ class MappedMqtt(MappedReach):
             if not self._broker.send_now(action.topic, payload):
                 raise DeviceFailed("the broker can't be reached")
             if action.state is not None:
+                self._last = None  # It is older than the command.
                 return Answer(action.state)
             answer = await expected.answer
         except BaseException:
@@ -89,6 +91,13 @@ class MappedMqtt(MappedReach):
         reading = self.read(payload.decode(errors="replace"))
         if reading is None:
             return
+        if retained and self._there is False:
+            self._retained = reading  # It counts if the broker also retains that the device is available.
+            return
+        self._take(reading, retained)
+
+    def _take(self, reading: Reading, retained: bool) -> None:
+        """Handles the reading of a message."""
         self._last = reading
         try:
             answer = answer_in(reading)
@@ -109,12 +118,16 @@ class MappedMqtt(MappedReach):
         if there is None or there == self._there:
             return
         before, self._there = self._there, there
+        found, self._retained = self._retained, None
         if not there:
+            self._last = None  # It may move while it is gone.
             open_call = [self._expected.answer] if self._expected is not None else []
             _settle([*self._told, *open_call], DeviceFailed("isn't available"))
             self.listener.gone(self.service)
         elif before is False:
             self.listener.late(self.service, "is available again")
+            if retained and found is not None:
+                self._take(found, retained)
 
 
 def _settle(waiting: Iterable[asyncio.Future[Answer]], value: Answer | DeviceFailed) -> None:
