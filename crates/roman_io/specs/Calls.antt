@@ -1,7 +1,7 @@
 -- The calls of an object in memory.
-use Rattle.std.specs.Prelude.{ℕ, Bool, List, ◌==◌}
+use Rattle.std.specs.Prelude.{◌≡◌, ℕ, Bool, List, Result, OnOk, OnErr, ◌==◌}
 use Rattle.std.specs.List.{list_any}
-use Rattle.roman_io.specs.Faults.{one_more}
+use Rattle.roman_io.specs.Faults.{one_more, HasCause}
 
 -- the numbers of the calls that fail, the number of the next call, and how many calls failed
 pub record Calls : Type 0 where
@@ -28,3 +28,9 @@ after_fault calls = record { failing = calls.failing; next = calls.next; faults 
 -- the record after a call that failed
 abbrev pub after_failed : Calls → Calls
 after_failed calls = after_fault (after_call calls)
+
+-- the record counts the call, and its fault at an error
+pub record CountsCall {T E : Type 0} (old new : Calls) (result : Result T E) : Type 0 where
+  pub cause : HasCause old.faults new.faults result
+  pub ok : OnOk result (new ≡ after_call old)
+  pub err : OnErr result (new ≡ after_failed old)

@@ -1,7 +1,7 @@
 //! A source without an end.
-ghost use Rattle.std.specs.Prelude.{◌≡◌, ℕ, ◌<◌, ◌≤◌, length, replicate, None, Ok, IfOk};
+ghost use Rattle.std.specs.Prelude.{◌≡◌, ℕ, length, replicate, None, Ok};
 ghost use Rattle.roman_io.specs.Faults.{HasCause};
-ghost use Rattle.roman_io.specs.Source.{EndsAt, Takes};
+ghost use Rattle.roman_io.specs.ReadCalls.{IsTake};
 
 use crate::failed::Failed;
 use crate::source::Source;
@@ -35,9 +35,7 @@ impl Source for EndlessSource {
     ghost faults = { λ _. 0 };
 
     fn take(&mut self, into: &mut [u8]) -> Result<usize, Failed>
-        ensures bound { IfOk result (λ n. n ≤ length into.new) }
-        ensures moves { Takes None None into.new result }
-        ensures ends { IfOk result (λ n. 0 < length into.new → EndsAt None n) }
+        ensures takes { IsTake None None into.new result }
         ensures cause { HasCause 0 0 result }
         ensures fills { into.new ≡ replicate (length into.old) self.old }
         ensures count { result ≡ Ok (length into.old) }

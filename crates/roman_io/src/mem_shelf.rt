@@ -1,9 +1,8 @@
 //! A shelf in memory whose calls can be made to fail.
-ghost use Rattle.std.specs.Prelude.{◌≡◌, ◌&&◌, not, ◌≤◌, min, length, drop, is_ok, is_some, Some, IfOk, IfSome, OnOk, OnErr};
-ghost use Rattle.roman_io.specs.Calls.{no_calls, is_failing, after_call, after_failed};
-ghost use Rattle.roman_io.specs.Faults.{HasCause};
-ghost use Rattle.roman_io.specs.Memory.{ShelfState, texts_of};
-ghost use Rattle.roman_io.specs.Shelf.{Fetches, text_at, shelf_text};
+ghost use Rattle.std.specs.Prelude.{◌≡◌, is_ok, Some, IfOk};
+ghost use Rattle.roman_io.specs.Calls.{no_calls, CountsCall};
+ghost use Rattle.roman_io.specs.Memory.{ShelfState, texts_of, can_fetch, fetched_count};
+ghost use Rattle.roman_io.specs.ReadCalls.{IsFetch};
 
 use crate::calls::Calls;
 use crate::copying::{copy_from, find_text};
@@ -45,16 +44,10 @@ impl Shelf for MemShelf {
     ghost faults = { λ s. s.calls.faults };
 
     fn fetch(&mut self, name: &str, at: u64, into: &mut [u8]) -> Result<usize, Failed>
-        ensures bound { IfOk result (λ n. n ≤ length into.new) }
-        ensures bytes { IfSome (Some self.old.texts)
-            (λ ts. IfOk result (Fetches (shelf_text ts name.now) at into.new)) }
-        ensures texts { Some self.new.texts ≡ Some self.old.texts }
-        ensures cause { HasCause self.old.calls.faults self.new.calls.faults result }
-        ensures fails { is_ok result ≡ (not (is_failing self.old.calls) && is_some (text_at self.old.texts name.now)) }
-        ensures count { let text = shelf_text self.old.texts name.now in
-            IfOk result (λ n. n ≡ min (length (drop at text)) (length into.new)) }
-        ensures ok { OnOk result (self.new.calls ≡ after_call self.old.calls) }
-        ensures err { OnErr result (self.new.calls ≡ after_failed self.old.calls) }
+        ensures fetches { IsFetch (Some self.old.texts) (Some self.new.texts) name.now at into.new result }
+        ensures calls { CountsCall self.old.calls self.new.calls result }
+        ensures fails { is_ok result ≡ can_fetch self.old name.now }
+        ensures count { IfOk result (λ n. n ≡ fetched_count self.old.texts name.now at into.new) }
     {
         if self.calls.begin() {
             return Err(Failed);

@@ -1,8 +1,7 @@
 //! A sink in memory whose calls can be made to fail.
-ghost use Rattle.std.specs.Prelude.{◌≡◌, ◌/◌, ◌++◌, ◌⊎◌, [], length, take, Some, true, false, OnOk, OnErr};
-ghost use Rattle.roman_io.specs.Calls.{no_calls, is_failing, after_call, after_failed};
-ghost use Rattle.roman_io.specs.Faults.{HasCause};
-ghost use Rattle.roman_io.specs.Memory.{SinkState};
+ghost use Rattle.std.specs.Prelude.{◌≡◌, [], Some, false, OnOk, OnErr};
+ghost use Rattle.roman_io.specs.Calls.{no_calls, is_failing, CountsCall};
+ghost use Rattle.roman_io.specs.Memory.{SinkState, AppendsHalf};
 ghost use Rattle.roman_io.specs.Sink.{Puts};
 
 use crate::calls::Calls;
@@ -56,13 +55,9 @@ impl Sink for MemSink {
     /// the bytes as they were.
     fn put(&mut self, bytes: &[u8]) -> Result<(), Failed>
         ensures puts { Puts (Some self.old.written) (Some self.new.written) bytes.now result }
-        ensures cause { HasCause self.old.calls.faults self.new.calls.faults result }
+        ensures calls { CountsCall self.old.calls self.new.calls result }
         ensures fails { OnOk result (is_failing self.old.calls ≡ false) }
-        ensures half { OnErr result ((self.new.written ≡ self.old.written)
-            ⊎ ((is_failing self.old.calls ≡ true) × (self.new.written
-            ≡ self.old.written ++ take (length bytes.now / 2) bytes.now))) }
-        ensures ok { OnOk result (self.new.calls ≡ after_call self.old.calls) }
-        ensures err { OnErr result (self.new.calls ≡ after_failed self.old.calls) }
+        ensures half { OnErr result (AppendsHalf self.old self.new bytes.now) }
     {
         if self.calls.begin() {
             append_half(&mut self.written, bytes);

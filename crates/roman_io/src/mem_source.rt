@@ -1,9 +1,8 @@
 //! A source in memory whose calls can be made to fail.
-ghost use Rattle.std.specs.Prelude.{◌≡◌, ◌+◌, ◌<◌, ◌≤◌, not, min, length, is_ok, Some, drop, IfOk, OnOk, OnErr};
-ghost use Rattle.roman_io.specs.Calls.{no_calls, is_failing, after_call, after_failed};
-ghost use Rattle.roman_io.specs.Faults.{HasCause};
-ghost use Rattle.roman_io.specs.Memory.{SourceState};
-ghost use Rattle.roman_io.specs.Source.{EndsAt, Takes};
+ghost use Rattle.std.specs.Prelude.{◌≡◌, ◌+◌, ◌≤◌, not, length, is_ok, Some, drop, IfOk};
+ghost use Rattle.roman_io.specs.Calls.{no_calls, is_failing, CountsCall};
+ghost use Rattle.roman_io.specs.Memory.{SourceState, taken_count};
+ghost use Rattle.roman_io.specs.ReadCalls.{IsTake};
 
 use crate::calls::Calls;
 use crate::copying::copy_piece;
@@ -50,15 +49,11 @@ impl Source for MemSource {
     ghost faults = { λ s. s.calls.faults };
 
     fn take(&mut self, into: &mut [u8]) -> Result<usize, Failed>
-        ensures bound { IfOk result (λ n. n ≤ length into.new) }
-        ensures moves { Takes (Some self.old.rest) (Some self.new.rest) into.new result }
-        ensures ends { IfOk result (λ n. 0 < length into.new → EndsAt (Some self.old.rest) n) }
-        ensures cause { HasCause self.old.calls.faults self.new.calls.faults result }
+        ensures takes { IsTake (Some self.old.rest) (Some self.new.rest) into.new result }
+        ensures calls { CountsCall self.old.calls self.new.calls result }
         ensures fails { is_ok result ≡ not (is_failing self.old.calls) }
-        ensures count { IfOk result (λ n. n ≡ min (length self.old.rest) (min self.old.piece (length into.new))) }
+        ensures count { IfOk result (λ n. n ≡ taken_count self.old into.new) }
         ensures piece { self.new.piece ≡ self.old.piece }
-        ensures ok { OnOk result (self.new.calls ≡ after_call self.old.calls) }
-        ensures err { OnErr result (self.new.calls ≡ after_failed self.old.calls) }
     {
         if self.calls.begin() {
             return Err(Failed);

@@ -1,8 +1,9 @@
 //! A shelf in memory that never fails.
-ghost use Rattle.std.specs.Prelude.{◌≡◌, ◌≤◌, min, length, drop, Some, IfOk, IfSome, IsOk};
+ghost use Rattle.std.specs.Prelude.{◌≡◌, Some, IfOk, IsOk};
 ghost use Rattle.roman_io.specs.Faults.{HasCause};
-ghost use Rattle.roman_io.specs.Memory.{texts_of};
-ghost use Rattle.roman_io.specs.Shelf.{Fetches, Texts, shelf_text};
+ghost use Rattle.roman_io.specs.Memory.{texts_of, fetched_count};
+ghost use Rattle.roman_io.specs.ReadCalls.{IsFetch};
+ghost use Rattle.roman_io.specs.Shelf.{Texts};
 
 use crate::copying::{copy_from, find_text};
 use crate::failed::Failed;
@@ -37,12 +38,10 @@ impl Shelf for QuietShelf {
     ghost faults = { λ _. 0 };
 
     fn fetch(&mut self, name: &str, at: u64, into: &mut [u8]) -> Result<usize, Failed>
-        ensures bound { IfOk result (λ n. n ≤ length into.new) }
-        ensures bytes { IfSome (Some self.old) (λ ts. IfOk result (Fetches (shelf_text ts name.now) at into.new)) }
-        ensures texts { Some self.new ≡ Some self.old }
+        ensures fetches { IsFetch (Some self.old) (Some self.new) name.now at into.new result }
         ensures cause { HasCause 0 0 result }
         ensures ok { IsOk result }
-        ensures count { IfOk result (λ n. n ≡ min (length (drop at (shelf_text self.old name.now))) (length into.new)) }
+        ensures count { IfOk result (λ n. n ≡ fetched_count self.old name.now at into.new) }
     {
         let text = find_text(&self.files, name).unwrap_or(&[]);
         Ok(copy_from(text, at, into))

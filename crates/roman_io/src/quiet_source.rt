@@ -1,7 +1,7 @@
 //! A source in memory that never fails.
-ghost use Rattle.std.specs.Prelude.{◌≡◌, ℕ, ◌<◌, ◌≤◌, List, min, length, drop, Some, IfOk, IsOk};
+ghost use Rattle.std.specs.Prelude.{◌≡◌, ℕ, ◌≤◌, List, min, length, drop, Some, IfOk, IsOk};
 ghost use Rattle.roman_io.specs.Faults.{HasCause};
-ghost use Rattle.roman_io.specs.Source.{EndsAt, Takes};
+ghost use Rattle.roman_io.specs.ReadCalls.{IsTake};
 
 use crate::copying::copy_rest;
 use crate::failed::Failed;
@@ -39,9 +39,7 @@ impl Source for QuietSource {
     ghost faults = { λ _. 0 };
 
     fn take(&mut self, into: &mut [u8]) -> Result<usize, Failed>
-        ensures bound { IfOk result (λ n. n ≤ length into.new) }
-        ensures moves { Takes (Some self.old) (Some self.new) into.new result }
-        ensures ends { IfOk result (λ n. 0 < length into.new → EndsAt (Some self.old) n) }
+        ensures takes { IsTake (Some self.old) (Some self.new) into.new result }
         ensures cause { HasCause 0 0 result }
         ensures ok { IsOk result }
         ensures count { IfOk result (λ n. n ≡ min (length self.old) (length into.new)) }
