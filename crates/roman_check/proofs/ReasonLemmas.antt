@@ -1,5 +1,5 @@
 -- Reasons that hold, and pairs that are missing.
-use Rattle.roman_check.proofs.Common.{◌≡◌, ◌≢◌, ℕ, ◌+◌, ◌-◌, ◌*◌, ◌^◌, ◌/◌, ◌%◌, ◌<◌, ◌≤◌, Bool, true, false, not, ◌&&◌, ◌||◌, List, get_or, [], ◌∷◌, length, Some, None, find, sym, ap, ap₂, ◌∙◌, subst, inl, inr, arith, add-one, bit_or, eqb, zero, suc, refl, bit_and, list_any, trailing_zeros, w64, bit_at, or-false, cases_lt, eq-eqb, false≢true, list_any-append, below, Arena, Entry, is_justified, is_listed, Reason, Act, could_be_listed, reasons, could_be_by, NoneMissing, from_below, none_from, find_first, find_not_found, list_any-map, is_on, AreRows, HasLanes, on_zero, on_or, on_and, IsNumbered, bit_at-trailing_zeros}
+use Rattle.roman_check.proofs.Common.{◌≡◌, ◌≢◌, ℕ, ◌+◌, ◌-◌, ◌*◌, ◌^◌, ◌%◌, ◌<◌, ◌≤◌, Bool, true, false, not, ◌&&◌, ◌||◌, List, get_or, [], ◌∷◌, length, Some, None, find, sym, ap, ap₂, ◌∙◌, subst, inl, inr, arith, add-one, bit_or, eqb, zero, suc, refl, bit_and, list_any, trailing_zeros, w64, bit_at, or-false, cases_lt, eq-eqb, false≢true, list_any-append, below, Arena, Entry, is_justified, is_listed, Reason, Act, could_be_listed, reasons, could_be_by, NoneMissing, from_below, none_from, find_first, find_not_found, list_any-map, is_on, AreRows, HasLanes, on_zero, on_or, on_and, IsNumbered, bit_at-trailing_zeros}
 
 -- Reasons
 

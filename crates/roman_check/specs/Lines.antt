@@ -30,3 +30,8 @@ HasForm pattern = IsPattern pattern.text pattern.shape
 -- the reason of the pattern is clause 2 or one of so many actions
 abbrev pub HasReasonOf : ℕ → Pattern → Type 0
 HasReasonOf actions pattern = IsIn pattern.shape.reason (reasons actions)
+
+-- the pattern is of entries with a reason of so many actions
+pub record IsPatternFor (actions : ℕ) (pattern : Pattern) : Type 0 where
+  pub form : HasForm pattern
+  pub reason : HasReasonOf actions pattern

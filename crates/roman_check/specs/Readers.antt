@@ -62,6 +62,16 @@ pub record ReadsPart (A : Arena ℕ) (lanes : ℕ) (old new : Reader) (piece : L
   pub shaped : IsInRows lanes (length A.nodes) new.audit.left
   pub reads : (taken : List ℕ) → IsReading A (taken ++ take from piece) old → HasReached A (taken ++ take to piece) new fault
 
+-- the same, in a system
+abbrev pub ReadsOn : {J R : Type 0} → RulesView J R → J → Reader → Reader → List ℕ → ℕ → ℕ → Option Why → Type 0
+ReadsOn J joint old new piece from to fault = ReadsPart (J.arena joint) (J.lanes joint) old new piece from to fault
+
+-- the table fits the system, and the lines of the piece from this place on can be counted within the limit
+pub record CanReadFrom {J R : Type 0} (V : RulesView J R) (joint : J) (reader : Reader) (piece : List ℕ) (from : ℕ) : Type 0 where
+  pub shaped : Fits V joint reader.audit
+  pub place : from ≤ length piece
+  pub room : reader.lines + length piece ≤ MAX_CERTIFICATE_BYTES + from
+
 -- the whole piece is read, or a line that ends in it is at fault
 pub record ReadsPiece (A : Arena ℕ) (lanes : ℕ) (old new : Reader) (piece : List ℕ) (fault : Option Why) : Type 0 where
   pub to : ℕ

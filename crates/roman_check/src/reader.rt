@@ -3,9 +3,9 @@ ghost use Rattle.std.specs.Prelude.{◌≡◌, ℕ, ◌+◌, ◌*◌, ◌<◌, �
 ghost use Rattle.roman_model.specs.Lines.{lines};
 ghost use Rattle.roman_model.specs.Arena.{Arena};
 ghost use Rattle.roman_rules.specs.Numbered.{IsNumbered};
-ghost use Rattle.roman_check.specs.Lines.{HasForm, HasReasonOf};
+ghost use Rattle.roman_check.specs.Lines.{IsPatternFor};
 ghost use Rattle.roman_check.specs.Audits.{Fits};
-ghost use Rattle.roman_check.specs.Readers.{IsReading, HasLines, IsBetween, ReadsPart, ReadsPiece, EndsLine, Closes, CanEndLine, Decides, DecidesRead, JudgesHeld};
+ghost use Rattle.roman_check.specs.Readers.{CanReadFrom, ReadsOn, IsReading, HasLines, IsBetween, ReadsPart, ReadsPiece, EndsLine, Closes, CanEndLine, Decides, DecidesRead, JudgesHeld};
 
 use crate::audit::{Audit, Due};
 use crate::entries::ROOM;
@@ -99,13 +99,10 @@ impl Reader {
         piece: &[u8],
         from: usize,
     ) -> usize
-        requires shaped { Fits J.Rules joint.now self.old.audit }
-        requires place { from ≤ length piece.now }
-        requires room { self.old.lines + length piece.now ≤ MAX_CERTIFICATE_BYTES + from }
+        requires from { CanReadFrom J.Rules joint.now self.old piece.now from }
         requires between { IsBetween self.old }
-        requires pattern { HasForm pattern.now }
-        requires reason { HasReasonOf (J.arena joint.now).actions pattern.now }
-        ensures read { ReadsPart (J.arena joint.now) (J.lanes joint.now) self.old self.new piece.now from result None }
+        requires pattern { IsPatternFor (J.arena joint.now).actions pattern.now }
+        ensures read { ReadsOn J.Rules joint.now self.old self.new piece.now from result None }
         ensures between { IsBetween self.new }
     {
         joint.known(); // a pair's number fits in 32 bits
@@ -140,13 +137,10 @@ impl Reader {
         from: usize,
         steps: &mut Steps<L>,
     ) -> Result<usize, Why>
-        requires shaped { Fits J.Rules joint.now self.old.audit }
-        requires place { from ≤ length piece.now }
-        requires room { self.old.lines + length piece.now ≤ MAX_CERTIFICATE_BYTES + from }
-        ensures read { IfOk result (λ start. ReadsPart (J.arena joint.now)
-            (J.lanes joint.now) self.old self.new piece.now from start None) }
-        ensures fault { IfErr result (λ why. (to : ℕ) × ReadsPart (J.arena joint.now)
-            (J.lanes joint.now) self.old self.new piece.now from to (Some why)) }
+        requires { CanReadFrom J.Rules joint.now self.old piece.now from }
+        ensures read { IfOk result (λ start. ReadsOn J.Rules joint.now self.old self.new piece.now from start None) }
+        ensures fault { IfErr result (λ why. (to : ℕ) ×
+            ReadsOn J.Rules joint.now self.old self.new piece.now from to (Some why)) }
     {
         joint.known(); // a pair's number fits in 32 bits
         let mut start = from;

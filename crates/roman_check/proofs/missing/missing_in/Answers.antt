@@ -1,4 +1,4 @@
-use Rattle.roman_check.proofs.Common.{◌≡◌, ◌∙◌, ◌&&◌, arith, is_listed}
+use Rattle.roman_check.proofs.Common.{arith, is_listed}
 use Rattle.roman_check.proofs.RemainLemmas.{without_within}
 use Rattle.roman_check.proofs.ReasonLemmas.{all_probed, and_lanes, final_lanes, more_lanes}
 use Rattle.roman_check.proofs.missing.missing_in.Goals as goal

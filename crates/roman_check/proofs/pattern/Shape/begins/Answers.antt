@@ -1,4 +1,4 @@
-use Rattle.roman_check.proofs.Common.{◌-◌, length, arith, false}
+use Rattle.roman_check.proofs.Common.{◌-◌, length, arith}
 use Rattle.roman_check.proofs.PatternLemmas.{same_ends}
 use Rattle.roman_check.proofs.pattern.Shape.begins.Goals as goal
 

@@ -1,4 +1,4 @@
-use Rattle.roman_check.proofs.Common.{◌+◌, ◌*◌, arith}
+use Rattle.roman_check.proofs.Common.{arith}
 use Rattle.roman_check.proofs.PatternLemmas.{pattern_parts, pattern_same}
 use Rattle.roman_check.proofs.pattern.Shape.fit.Goals as goal
 

@@ -16,7 +16,7 @@ loop-start-preserved g c =
     let probe = ap (λ a. a.reason) c.loop-start.invariant.probe ∙ sym same in
     let taken = subst (λ r. TakesEntry A lanes mid.audit c.take_known.new.self (entry_with (c.in-Some-fit.pair, r)) None) probe (c.take_known.ensures.taken c.if-not-take_known.false) in
     let read = entry_read A lanes mid new c.args.piece.now start shape.len ok (entry_with (c.in-Some-fit.pair, shape.reason)) None c.loop-start.invariant.read.high c.loop-start.invariant.between
-    (record { space = shape.place + 2; parts = c.in-Some-fit.ensures.pair; inside = taken.inside; given = c.requires.reason }) taken refl refl in
+    (record { space = shape.place + 2; parts = c.in-Some-fit.ensures.pair; inside = taken.inside; given = c.requires.pattern.reason }) taken refl refl in
     record {
       pattern = c.fit.ensures.pattern;
       probe = c.take_known.ensures.probe ∙ c.loop-start.invariant.probe;
