@@ -8,8 +8,6 @@ import pytest
 from . import TOP
 
 CRATES = TOP / "crates"
-WITHOUT = {"roman_examples"}
-"""Crates without contracts."""
 LONGEST = 2400
 """The maximum length of a README: about a screen."""
 HEADINGS = ["What contracts see", "What is only tested", "Where to begin"]
@@ -43,9 +41,9 @@ def unknown(crate: Path) -> list[str]:
     ]
 
 
-def test_each_crate_whose_contracts_others_use_has_one() -> None:
+def test_each_crate_has_one() -> None:
     have = {file.parent.name for file in CRATES.glob("*/README.md")}
-    assert have == listed() - WITHOUT
+    assert have == listed()
 
 
 @pytest.mark.parametrize("file", sorted(CRATES.glob("*/README.md")), ids=lambda file: str(file.parent.name))
