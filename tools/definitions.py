@@ -142,7 +142,7 @@ class Imports:
 def find_names(
     source: Source, page: str, imports: Imports, owners: dict[Definition, Definition], known: Sources
 ) -> None:
-    """Finds what the text of a source names, in its order. The notation `do` stands for the operator `>>=`."""
+    """Finds the names in the text of a source, in their order. The notation `do` stands for the operator `>>=`."""
     names: dict[Definition, None] = {}
     words: dict[str, None] = {}
     for found in NAME.finditer(re.sub(r"\bdo$", ">>=", re.sub(r'"[^"]*"', "", source.text), flags=re.M)):

@@ -272,7 +272,7 @@ class Dispatching(Generic[DeviceKind]):
     def _check_devices(self) -> None:
         for name in self.position.places:
             if name not in self.devices:
-                raise ValueError(f"the service {name} has no device")
+                raise ValueError(f"there is no device for the service {name}")
 
     # Requests.
 
@@ -345,7 +345,7 @@ class Dispatching(Generic[DeviceKind]):
         yield Notify(done)
 
     def _attempt(self, asking: NewRequest) -> Steps[Done | None]:
-        """Gives the request to one service. Returns None if this fails."""
+        """Delegates the request to one service. Returns None if this fails."""
         chosen = yield from self._choose((yield from self._offered(asking.action)))
         call = Call(chosen.service, self._delegated(asking.action), asking.action, self.position.calls + 1, asking.key)
         try:
@@ -680,7 +680,7 @@ class Dispatching(Generic[DeviceKind]):
                     settle(None, later)
 
     def _catch_up(self) -> Steps[None]:
-        """Writes what couldn't be written before, since answers contain only what is on the disk."""
+        """Writes the entries that couldn't be written before. An answer mustn't have more than the disk."""
         if self._unwritten:
             yield from self._write()
 

@@ -288,7 +288,7 @@ class Store:
 
     @property
     def pace(self) -> float:
-        """How many seconds the quickest of the last commits took. Other work may have slowed down the rest."""
+        """The number of seconds of the quickest recent commit. Other work may have slowed down the rest."""
         return min(self._paces)
 
     def last_calls(self) -> dict[str, int]:

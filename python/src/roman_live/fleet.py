@@ -217,7 +217,7 @@ class Fleet:
         self.retries.start_all(at_once=True)
 
     async def close(self) -> None:
-        """Stops all work in the background. What devices report from now on is ignored."""
+        """Stops all work in the background. Later reports of devices are ignored."""
         self._ready = False
         self.moves.hold()
         await self.background.close()
@@ -337,7 +337,7 @@ class Fleet:
         """Sets the state of the environment."""
         await self._dispatcher.change(protocol.jumpenv(state), source)
 
-    # What devices report.
+    # Reports of devices.
 
     def moved(self, service: str, answer: Answer) -> None:
         known = self.registry.get(service)
@@ -351,7 +351,7 @@ class Fleet:
                 self.background.run(self._come_back(service, answer))
             return
         if service == self._activity.chosen:
-            return  # It is asked, and its answer says where it is after this.
+            return  # The device is being asked, and its answer will be newer.
         self._place(service, answer)
 
     def answered(self, service: str) -> None:

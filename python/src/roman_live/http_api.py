@@ -151,7 +151,7 @@ class Server:
             self._check_host(request)
             entered = None if request.path == "/login" else self._enter(request)
             self._check_origin(request)
-            # A response without members is false, so that `or` won't do.
+            # A response without members is false, so `or` can't be used.
             response = await self._handler(request)(request) if entered is None else entered
         except web.HTTPException as error:
             if error.status == HTTPStatus.REQUEST_ENTITY_TOO_LARGE:

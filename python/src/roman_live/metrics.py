@@ -10,7 +10,7 @@ STATUSES = ("ready", "frozen", "under way", "dead")
 
 
 class Metrics:
-    """The figures of a home, since it was started."""
+    """The figures of a home since its start."""
 
     def __init__(self) -> None:
         registry = CollectorRegistry()

@@ -373,7 +373,7 @@ def test_another_page_changes_nothing(page: ThePage) -> None:
             page.end_headers()
 
         def log_message(page, *words: Any) -> None:
-            """Says nothing."""
+            """Logs nothing."""
 
     server = ThreadingHTTPServer(("127.0.0.1", 0), Foreign)
     page.at_end.callback(server.server_close)
@@ -491,7 +491,7 @@ def framed(browsing: Browsing, port: int, allowed: bool) -> None:
             self.wfile.write(FRAME.format(home.url).encode())
 
         def log_message(self, *words: Any) -> None:
-            """Says nothing."""
+            """Logs nothing."""
 
     server = ThreadingHTTPServer(("127.0.0.1", port), Card)
     browsing.at_end.callback(server.server_close)

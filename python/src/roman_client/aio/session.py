@@ -151,8 +151,8 @@ class Session:
         return await self.run(self.core.resume(snapshot))
 
     async def snapshot(self) -> Snapshot:
-        """Where the session stands, to `resume` from. Raises `DocumentError` where the document couldn't
-        be read from here."""
+        """Returns a snapshot, with which `resume` continues. Raises `DocumentError` if the document couldn't be read
+        from here."""
         return await self.run(self.core.snapshot())
 
     # State, and the end.
