@@ -3,7 +3,6 @@
 from __future__ import annotations
 
 import asyncio
-import contextlib
 import logging
 from collections.abc import Coroutine
 from typing import Any, TypeVar
@@ -20,14 +19,6 @@ async def finished(work: Coroutine[Any, Any, Value]) -> Value:
     task = asyncio.ensure_future(work)
     task.add_done_callback(lambda task: task.cancelled() or task.exception())
     return await asyncio.shield(task)
-
-
-async def happens(event: asyncio.Event, seconds: float | None) -> bool:
-    """Waits for an event, and returns whether it came in that time. None is no limit."""
-    with contextlib.suppress(TimeoutError):
-        async with asyncio.timeout(seconds):
-            await event.wait()
-    return event.is_set()
 
 
 class Background:

@@ -16,7 +16,8 @@ from typing import Any
 
 import paho.mqtt.client as mqtt  # type: ignore[import]
 
-from .background import happens
+from roman_client.aio.streams import happens
+
 from .config import Broker
 from .limits import LONGEST_BODY
 

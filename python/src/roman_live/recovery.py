@@ -6,7 +6,8 @@ import asyncio
 from collections.abc import Awaitable, Callable
 from datetime import datetime, timedelta, timezone
 
-from .background import happens
+from roman_client.aio.streams import happens
+
 from .devices import Answer
 from .errors import error_text
 from .registry import Registry

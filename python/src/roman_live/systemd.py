@@ -10,7 +10,8 @@ import sys
 
 from systemd import daemon  # type: ignore[import]
 
-from .background import happens
+from roman_client.aio.streams import happens
+
 from .log import OnceAMinute
 
 PRIORITIES = {logging.WARNING: 4, logging.ERROR: 3, logging.CRITICAL: 2}

@@ -15,6 +15,7 @@ import pytest
 
 from roman_client import StoreFailed, protocol
 from roman_client.aio.dispatcher import _in_a_thread
+from roman_client.aio.streams import happens
 from roman_client.core import Ahead, Posted
 from roman_client.effects import Commit, Restore
 from roman_client.position import Frozen
@@ -236,3 +237,29 @@ async def test_a_write_in_a_thread_ends_though_it_is_cancelled_twice() -> None:
     with pytest.raises(asyncio.CancelledError):
         await writing
     assert ended.is_set()
+
+
+async def test_a_cancellation_that_comes_with_an_event_is_not_lost() -> None:
+    for rounds in range(4):
+        event = asyncio.Event()
+        waiting = asyncio.create_task(happens(event, None))
+        await asyncio.sleep(0)
+        event.set()
+        for _ in range(rounds):
+            await asyncio.sleep(0)
+        is_open = waiting.cancel()
+        await asyncio.wait({waiting})
+        assert waiting.cancelled() == is_open
+
+
+async def test_an_event_is_waited_for_after_a_cancellation() -> None:
+    async def wait() -> bool:
+        try:
+            await asyncio.Event().wait()
+        finally:
+            return await happens(asyncio.Event(), 0.01)
+
+    waiting = asyncio.create_task(wait())
+    await asyncio.sleep(0)
+    waiting.cancel()
+    assert not await waiting

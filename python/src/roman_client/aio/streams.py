@@ -199,7 +199,7 @@ class Streams(asyncio.SubprocessProtocol):
 
     async def _ending(self) -> ProgramEnded:
         """Returns how the program ended, with its last output. A program that only closed its output is ended."""
-        await _happens(self._said_all, 1)
+        await happens(self._said_all, 1)
         status = await self._wait(1)
         said = [*self._lines, *([self._begun.decode(errors="replace")] if self._begun else [])]
         self._ended = ProgramEnded(status, said, self._error_lines())
@@ -207,11 +207,11 @@ class Streams(asyncio.SubprocessProtocol):
 
     async def _wait(self, seconds: float) -> int:
         """Waits that long for the program, then ends it, and returns its status."""
-        if not await _happens(self._exited, seconds):
+        if not await happens(self._exited, seconds):
             with contextlib.suppress(ProcessLookupError):
                 self._transport.kill()
         await self._exited.wait()
-        await _happens(self._silent, 0.2)
+        await happens(self._silent, 0.2)
         status = self._transport.get_returncode()
         assert status is not None
         return status
@@ -242,10 +242,14 @@ class Streams(asyncio.SubprocessProtocol):
         return b"".join(self._errors).decode(errors="replace").splitlines()[-16:]
 
 
-async def _happens(event: asyncio.Event, seconds: float) -> bool:
+async def happens(event: asyncio.Event, seconds: float | None) -> bool:
     """Waits that long for an event, also in a task that was cancelled. Returns whether it is set."""
-    with contextlib.suppress(asyncio.TimeoutError):
-        await asyncio.wait_for(event.wait(), seconds)
+    # In Python 3.11 `wait_for` drops a cancellation that comes with the event, and `timeout` raises an earlier one.
+    waiting = asyncio.ensure_future(event.wait())
+    try:
+        await asyncio.wait({waiting}, timeout=seconds)
+    finally:
+        waiting.cancel()
     return event.is_set()
 
 
