@@ -10,8 +10,16 @@ import signal
 import sys
 from pathlib import Path
 
+from roman_client import DeviceFailed
+from roman_client.aio.streams import to_its_end
+
+from .devices.command import CommandOutput
+
 LONGEST_DRAWING = 60.0
 """The number of seconds after which a drawing is given up."""
+
+LARGEST_DRAWING = 1 << 26
+"""The most bytes of a drawing."""
 
 
 class Picture:
@@ -35,24 +43,30 @@ async def _draw(document: Path) -> bytes | None:
     tool = _tool()
     if tool is None:
         return None
-    process = await asyncio.create_subprocess_exec(
+    start = asyncio.get_running_loop().subprocess_exec(
+        lambda: CommandOutput(LARGEST_DRAWING),
         *tool,
         document.name,
         cwd=document.parent,
         start_new_session=True,
         stdin=asyncio.subprocess.DEVNULL,
-        stdout=asyncio.subprocess.PIPE,
         stderr=asyncio.subprocess.DEVNULL,
     )
+    (transport, drawn), interrupt = await to_its_end(start)
     try:
+        if interrupt is not None:
+            raise interrupt
         async with asyncio.timeout(LONGEST_DRAWING):
-            output, _ = await process.communicate()
-    except TimeoutError:
+            await drawn.ended
+            await asyncio.wait({drawn.closed})
+    except (TimeoutError, DeviceFailed):
         return None
     finally:
         with contextlib.suppress(ProcessLookupError):  # Graphviz is in its group.
-            os.killpg(process.pid, signal.SIGKILL)
-    return output if process.returncode == 0 else None
+            os.killpg(transport.get_pid(), signal.SIGKILL)
+        transport.close()
+        await asyncio.wait({drawn.closed})
+    return bytes(drawn.output) if transport.get_returncode() == 0 else None
 
 
 def _tool() -> tuple[str, ...] | None:

@@ -24,7 +24,7 @@ from ..replies import Explanation, Repair, Report
 from ..store import Store
 from .devices import Act, Back, Device, Policy, as_device
 from .session import Session
-from .streams import run
+from .streams import run, to_its_end
 
 LOG = logging.getLogger("roman_client.dispatcher")
 
@@ -343,17 +343,10 @@ def _nothing() -> Steps[None]:
 
 async def _in_a_thread(write: Callable[[], None]) -> None:
     """Waits for the disk in a thread. A write that was begun ends, even if the task is cancelled."""
-    work = asyncio.ensure_future(asyncio.get_running_loop().run_in_executor(None, write))
-    interrupt: asyncio.CancelledError | None = None
-    while not work.done():
-        try:
-            await asyncio.wait({work})
-        except asyncio.CancelledError as error:
-            interrupt = error
+    # If it fails after a cancellation, its entries are written later.
+    _, interrupt = await to_its_end(asyncio.get_running_loop().run_in_executor(None, write))
     if interrupt is not None:
-        work.exception()  # Marks the error as retrieved. The entries are written later.
         raise interrupt
-    work.result()
 
 
 async def _value(later: Awaitable[Value]) -> Value:

@@ -7,7 +7,7 @@ import contextlib
 import os
 import select
 from collections import deque
-from collections.abc import Callable, Coroutine
+from collections.abc import Awaitable, Callable, Coroutine
 from types import CoroutineType
 from typing import Any, Deque
 
@@ -54,12 +54,14 @@ class Streams(asyncio.SubprocessProtocol):
         output, end = os.pipe()
         os.set_blocking(output, False)
         try:
-            _, streams = await loop.subprocess_exec(
-                lambda: cls(output, timeout),
-                *start.words,
-                stdout=end,
-                cwd=start.folder,
-                start_new_session=True,  # Ctrl-C doesn't end it.
+            (_, streams), interrupt = await to_its_end(
+                loop.subprocess_exec(
+                    lambda: cls(output, timeout),
+                    *start.words,
+                    stdout=end,
+                    cwd=start.folder,
+                    start_new_session=True,  # Ctrl-C doesn't end it.
+                )
             )
         except BaseException:
             loop.remove_reader(output)  # Or the next file with this number couldn't be read.
@@ -67,6 +69,9 @@ class Streams(asyncio.SubprocessProtocol):
             raise
         finally:
             os.close(end)
+        if interrupt is not None:
+            await streams.stop()
+            raise interrupt
         return streams
 
     # Callbacks of the loop.
@@ -77,8 +82,7 @@ class Streams(asyncio.SubprocessProtocol):
         pipe = transport.get_pipe_transport(INPUT)
         assert isinstance(pipe, asyncio.WriteTransport)
         self._input = pipe
-        if not transport.is_closing():  # A start that is cancelled closes it.
-            self._loop.add_reader(self._output, self._read)
+        self._loop.add_reader(self._output, self._read)
 
     def pipe_data_received(self, fd: int, data: bytes) -> None:
         self._errors.append(data)
@@ -251,6 +255,22 @@ async def happens(event: asyncio.Event, seconds: float | None) -> bool:
     finally:
         waiting.cancel()
     return event.is_set()
+
+
+async def to_its_end(work: Awaitable[Value]) -> tuple[Value, asyncio.CancelledError | None]:
+    """The value of a work, and the cancellation of the present task if that came meanwhile. It doesn't cancel the work,
+    and the caller has to raise it. An error of the work is dropped then. Processes are started so: if asyncio's start
+    is cancelled, it ends the process alone, and waits until what that has started closes its pipes."""
+    task = asyncio.ensure_future(work)
+    interrupt: asyncio.CancelledError | None = None
+    while not task.done():
+        try:
+            await asyncio.wait({task})
+        except asyncio.CancelledError as error:
+            interrupt = error
+    if interrupt is not None and (task.cancelled() or task.exception() is not None):
+        raise interrupt
+    return task.result(), interrupt
 
 
 async def abandon(pipe: asyncio.StreamWriter) -> None:

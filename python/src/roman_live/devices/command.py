@@ -12,7 +12,7 @@ from collections.abc import Iterator
 from typing import Any
 
 from roman_client import Call, DeviceFailed, DeviceLost
-from roman_client.aio.streams import abandon
+from roman_client.aio.streams import abandon, to_its_end
 
 from ..config import CommandReach
 from ..errors import check_file_limit
@@ -67,14 +67,17 @@ class Command(Reach):
         """Runs the command once. Ends those of its processes that still run afterwards, or when this is cancelled."""
         loop = asyncio.get_running_loop()
         with _naming(self._entry):
-            transport, written = await loop.subprocess_exec(
+            start = loop.subprocess_exec(
                 CommandOutput,
                 *self._entry.command,
                 word,
                 stdin=asyncio.subprocess.DEVNULL,
                 **_around(self._entry, number, holds),
             )
+            (transport, written), interrupt = await to_its_end(start)
         try:
+            if interrupt is not None:
+                raise interrupt
             await written.ended
             await asyncio.wait({written.closed}, timeout=REST)
         finally:
@@ -94,9 +97,10 @@ class Command(Reach):
 
 class CommandOutput(asyncio.SubprocessProtocol):
     """The `output` of a command that runs once, and the last bytes of its `errors`. `ended` is done when the command
-    has ended or has written too much, and `closed` when no process can write any more."""
+    has ended or has written more than `most` bytes, and `closed` when no process can write any more."""
 
-    def __init__(self) -> None:
+    def __init__(self, most: int = LONGEST_ANSWER) -> None:
+        self._most = most
         loop = asyncio.get_running_loop()
         self.output, self.errors = bytearray(), bytearray()
         self.ended: asyncio.Future[None] = loop.create_future()
@@ -106,10 +110,10 @@ class CommandOutput(asyncio.SubprocessProtocol):
         if fd == 2:
             self.errors += data
             del self.errors[:-LONGEST_ANSWER]
-        elif len(self.output) <= LONGEST_ANSWER:
+        elif len(self.output) <= self._most:
             self.output += data
-            if len(self.output) > LONGEST_ANSWER and not self.ended.done():
-                self.ended.set_exception(DeviceFailed(f"answered more than {LONGEST_ANSWER} bytes"))
+            if len(self.output) > self._most and not self.ended.done():
+                self.ended.set_exception(DeviceFailed(f"answered more than {self._most} bytes"))
 
     def process_exited(self) -> None:
         if not self.ended.done():
@@ -286,7 +290,7 @@ class LineCommand(Reach):
         if process.returncode is not None:
             return
         if _kill(process.pid):
-            await process.wait()
+            await _ended(process)
         else:
             assert process.stdin is not None
             process.stdin.close()  # A well-behaved command ends at the end of its input.
@@ -324,14 +328,27 @@ def _naming(entry: CommandReach) -> Iterator[None]:
 
 async def _start(entry: CommandReach, holds: tuple[int, ...]) -> asyncio.subprocess.Process:
     """Starts a command that keeps running."""
+    start = asyncio.create_subprocess_exec(
+        *entry.command,
+        stdin=asyncio.subprocess.PIPE,
+        stdout=asyncio.subprocess.PIPE,
+        limit=LONGEST_ANSWER,
+        **_around(entry, None, holds),
+    )
     with _naming(entry):
-        return await asyncio.create_subprocess_exec(
-            *entry.command,
-            stdin=asyncio.subprocess.PIPE,
-            stdout=asyncio.subprocess.PIPE,
-            limit=LONGEST_ANSWER,
-            **_around(entry, None, holds),
-        )
+        process, interrupt = await to_its_end(start)
+    if interrupt is not None:
+        _kill(process.pid)
+        await _ended(process)
+        raise interrupt
+    return process
+
+
+async def _ended(process: asyncio.subprocess.Process) -> None:
+    """Waits for the end of a command that was killed, and closes its pipes. A process outside of its group may keep
+    them open."""
+    await asyncio.wait({asyncio.ensure_future(process.wait())}, timeout=REST)
+    process._transport.close()  # type: ignore[attr-defined]  # There is no public call for this.
 
 
 def _check_ended(processes: Processes, number: int) -> None:
