@@ -2,11 +2,12 @@
 
 from __future__ import annotations
 
+import sys
 from collections.abc import Sequence
 from html import escape
 from typing import TYPE_CHECKING
 
-from . import need
+from . import need, program
 
 if TYPE_CHECKING:
     import graphviz  # type: ignore[import]
@@ -38,15 +39,15 @@ def graph(direction: str, **options: str) -> graphviz.Digraph:
 
 def svg(picture: graphviz.Digraph) -> str:
     """The picture as an SVG."""
-    import graphviz
-
     try:
-        drawn: str = picture.pipe(format="svg", encoding="utf-8")
-        return drawn
-    except graphviz.ExecutableNotFound:
+        # The module graphviz would leave `dot` running after an interrupt.
+        done = program.run("dot", "-Kdot", "-Tsvg", text=picture.source, encoding="utf-8")
+    except FileNotFoundError:
         raise Wrong("Graphviz isn't there; tools/debian installs it") from None
-    except graphviz.CalledProcessError as error:
-        raise Wrong(f"Graphviz: {error.stderr}") from None
+    if done.returncode != 0:
+        raise Wrong(f"Graphviz: {done.stderr}")
+    sys.stderr.write(done.stderr)
+    return done.stdout
 
 
 def html(text: str) -> str:
