@@ -21,11 +21,22 @@ def need(*modules: str) -> None:
         sys.exit(f"the tools of roman need more than Python: sudo apt install {' '.join(missing)}")
 
 
+class Ended(Exception):
+    """The end of a tool whose error has been written."""
+
+    def __init__(self, status: int) -> None:
+        super().__init__(status)
+        self.status = status
+
+
 def finished(main: Callable[[], int]) -> int:
     """Runs a tool, and returns its status, also if the output can't be written. If the reader of the output goes away,
     the tool ends without a message, as other filters do."""
     try:
-        status = main()
+        try:
+            status = main()
+        except Ended as end:
+            status = end.status
         sys.stdout.flush()
         return status
     except OSError as error:

@@ -19,6 +19,7 @@ from pathlib import Path
 from . import finished, program
 from .costs import Reader
 from .documents import plain_file, read
+from .errors import ended_by_errors
 from .findings import Level, in_order
 from .lint import CLEAN, UNREADABLE, WRONG
 from .offers_picture import Arena, Pair
@@ -133,7 +134,7 @@ def main(arguments: Sequence[str] | None = None) -> int:
     words.add_argument("--all", action="store_true", help=f"show all rows, not only {MOST}")
     words.add_argument("--program", metavar="ROMAN", help="the program to call")
     asked = words.parse_args(arguments)
-    try:
+    with ended_by_errors("roman-advice", UNREADABLE, UNREADABLE):
         checker = read(asked.system)
         findings = list(checker.findings)
         if checker.document is not None:
@@ -151,14 +152,6 @@ def main(arguments: Sequence[str] | None = None) -> int:
             return status
         advice = Advice(Arena(checker.document, set()), reader.by_behaviour(), text)
         rows = list(table(advice, None if asked.all else MOST))
-    except OSError as error:
-        if error.filename is None:
-            raise  # The output can't be written.
-        print(f"roman-advice: {error.filename}: {error.strerror}", file=sys.stderr)
-        return UNREADABLE
-    except Wrong as error:
-        print(f"roman-advice: {error}", file=sys.stderr)
-        return UNREADABLE
     print(f"the next {advice.horizon} requests from the start cost {worst[1]} at worst\n")
     print(*rows, sep="\n")
     return status

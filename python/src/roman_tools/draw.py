@@ -19,6 +19,7 @@ from roman_client import Document
 
 from . import explanations, finished, offers_picture, program, why
 from .documents import plain_file, read
+from .errors import ended_by_errors
 from .lint import all_findings
 from .pictures import Wrong, svg
 from .system_picture import Picture
@@ -106,16 +107,11 @@ def main(arguments: Sequence[str] | None = None) -> int:
     words.add_argument("--dot", action="store_true", help="write the text for Graphviz")
     words.add_argument("--program", metavar="ROMAN", help="the program to call")
     asked = words.parse_args(arguments)
-    try:
-        data = drawn(asked).encode("utf-8", "replace")
-    except OSError as error:
-        if error.filename is None:
-            raise  # The input of the program can't be written.
-        print(f"roman-draw: {error.filename}: {error.strerror}", file=sys.stderr)
-        return 1
-    except Wrong as error:
-        print(f"roman-draw: {error}".encode("ascii", "backslashreplace").decode(), file=sys.stderr)
-        return 1
+    with ended_by_errors("roman-draw", 1, 1):
+        try:
+            data = drawn(asked).encode("utf-8", "replace")
+        except Wrong as error:
+            raise Wrong(str(error).encode("ascii", "backslashreplace").decode()) from None
     if asked.out is None:
         sys.stdout.buffer.write(data)
         sys.stdout.flush()

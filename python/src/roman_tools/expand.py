@@ -17,6 +17,7 @@ from pathlib import Path
 from . import finished
 from .costs import Reader
 from .documents import read
+from .errors import ended_by_errors
 from .findings import Level, in_order
 from .lint import CLEAN, UNREADABLE, WRONG
 from .writer import written
@@ -33,15 +34,12 @@ def main(arguments: Sequence[str] | None = None) -> int:
         "--costs", metavar="COSTS", help="write the plain form of these costs in place of the document's"
     )
     asked = words.parse_args(arguments)
-    try:
+    with ended_by_errors("roman-expand", UNREADABLE, WRONG):
         checker = read(asked.file)
         reader = None
         if checker.document is not None and asked.costs is not None:
             reader = Reader(checker, checker.document, asked.costs)
             checker.findings += [each for each in reader.read().findings if each.level is Level.ERROR]
-    except OSError as error:
-        print(f"roman-expand: {error.filename}: {error.strerror}", file=sys.stderr)
-        return UNREADABLE
     if checker.document is None or checker.findings:
         for each in in_order(checker.findings):
             print(*each.shown(), sep="\n", file=sys.stderr)

@@ -11,7 +11,6 @@ from __future__ import annotations
 import argparse
 import contextlib
 import json
-import sys
 from collections.abc import Sequence
 
 from . import finished, program
@@ -19,6 +18,7 @@ from .cautions import judged, of_text
 from .checks import Checker
 from .costs import Reader
 from .documents import plain_file, read
+from .errors import ended_by_errors
 from .findings import Finding, Level, grouped, in_order, repeats
 from .limits import too_large
 from .why import explained, first_step
@@ -83,14 +83,11 @@ def main(arguments: Sequence[str] | None = None) -> int:
     words.add_argument("--program", metavar="ROMAN", help="the program to call")
     words.add_argument("--no-program", action="store_true", help="don't call the program")
     asked = words.parse_args(arguments)
-    try:
+    with ended_by_errors("roman-lint", UNREADABLE, WRONG):
         checker = read(asked.file)
         findings = all_findings(checker)
         if asked.costs is not None and checker.document is not None:
             findings += in_order(Reader(checker, checker.document, asked.costs).read().findings)
-    except OSError as error:
-        print(f"roman-lint: {error.filename}: {error.strerror}", file=sys.stderr)
-        return UNREADABLE
     answer = said(asked, checker)
     errors, warnings = counts(findings)
     if asked.json:

@@ -16,12 +16,13 @@ from collections.abc import Iterator, Sequence
 from dataclasses import replace
 from pathlib import Path
 
-from roman_client import Document, Report, RomanError, Service, mend
+from roman_client import Document, Report, Service, mend
 from roman_client.remedies import free_name, joins_loose
 from roman_client.replies import report_of
 
 from . import finished, program
 from .documents import plain_file, read
+from .errors import ended_by_errors
 from .findings import in_order
 from .lint import UNREADABLE, WRONG
 from .pictures import Wrong
@@ -123,7 +124,7 @@ def parser() -> argparse.ArgumentParser:
 
 def main(arguments: Sequence[str] | None = None) -> int:
     asked = parser().parse_args(arguments)
-    try:
+    with ended_by_errors("roman-mend", UNREADABLE, NOTHING):
         checker = read(asked.system)
         if checker.document is None:
             for each in in_order(checker.findings):
@@ -137,14 +138,6 @@ def main(arguments: Sequence[str] | None = None) -> int:
         if asked.spare:
             return write_spares(roman, document, report)
         return write_remedies(roman, document, report, asked.two)
-    except OSError as error:
-        if error.filename is None:
-            raise  # The output can't be written.
-        print(f"roman-mend: {error.filename}: {error.strerror}", file=sys.stderr)
-        return UNREADABLE
-    except (Wrong, RomanError) as error:
-        print(f"roman-mend: {error}", file=sys.stderr)
-        return NOTHING
 
 
 def command() -> int:

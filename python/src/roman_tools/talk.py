@@ -19,25 +19,13 @@ import tempfile
 from collections.abc import Callable, Iterator, Sequence
 from pathlib import Path
 
-from roman_client import (
-    Busy,
-    Document,
-    Idle,
-    NoComposition,
-    Offer,
-    ProgramEnded,
-    Refusal,
-    Related,
-    Report,
-    RomanError,
-    Session,
-    mend,
-)
+from roman_client import Busy, Document, Idle, NoComposition, Offer, Refusal, Related, Report, Session, mend
 from roman_client.remedies import first_of_each
 
 from . import explanations, finished, program
 from .checks import Checker
 from .documents import plain_file, read
+from .errors import ended_by_errors
 from .findings import in_order, meant
 from .lint import UNREADABLE, WRONG
 from .pictures import Wrong
@@ -471,7 +459,7 @@ def main(arguments: Sequence[str] | None = None) -> int:
     words.add_argument("system", metavar="SYSTEM")
     words.add_argument("--program", metavar="ROMAN", help="the program to call")
     asked = words.parse_args(arguments)
-    try:
+    with ended_by_errors("roman-talk", UNREADABLE, 1, passes_status=True):
         checker = read(asked.system)
         if checker.document is None:
             for each in in_order(checker.findings):
@@ -484,17 +472,6 @@ def main(arguments: Sequence[str] | None = None) -> int:
         if sys.stdin.isatty():
             return talk_at_terminal(checker, checker.document, roman)
         return echo(checker, checker.document, roman, sys.stdin.buffer.read())
-    except OSError as error:
-        if error.filename is None:
-            raise  # The output can't be written.
-        print(f"roman-talk: {error.filename}: {error.strerror}", file=sys.stderr)
-        return UNREADABLE
-    except ProgramEnded as ended:
-        print(f"roman-talk: {ended}", file=sys.stderr)
-        return ended.status
-    except RomanError as error:
-        print(f"roman-talk: {error}", file=sys.stderr)
-        return 1
 
 
 def command() -> int:
