@@ -119,8 +119,9 @@ class LeastWorst:
                 stderr=asyncio.subprocess.PIPE,
             )
             try:
-                output, errors = await asyncio.wait_for(process.communicate(), self._seconds)
-            except asyncio.TimeoutError:
+                async with asyncio.timeout(self._seconds):  # `wait_for` of Python 3.11 may drop a cancellation.
+                    output, errors = await process.communicate()
+            except TimeoutError:
                 LOG.warning("advise gave nothing within %s seconds", self._seconds)
                 return {}
             finally:

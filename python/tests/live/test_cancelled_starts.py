@@ -1,4 +1,4 @@
-"""A process that is started by a task that is cancelled meanwhile: it ends."""
+"""A process that is started by a task that is cancelled meanwhile: it ends, and the task is cancelled."""
 
 from __future__ import annotations
 
@@ -16,6 +16,7 @@ from roman_live.config import CommandReach
 from roman_live.devices import Answer
 from roman_live.devices.command import Command, LineCommand
 from roman_live.pictures import Picture
+from roman_live.policies import LeastWorst
 from roman_live.processes import Processes
 
 from . import sample
@@ -148,3 +149,26 @@ async def test_a_drawing_that_is_given_up(tmp_path: Path) -> None:
     with no_time, mock.patch.object(pictures, "_tool", lambda: ("sh", "-c", "exec sleep 3600")):
         assert await Picture(document).get() is None
     assert files() == before
+
+
+async def test_advice_that_comes_with_a_cancellation() -> None:
+    """The request is cancelled."""
+    for rounds in range(4):
+        written = asyncio.Event()
+
+        async def communicate() -> tuple[bytes, bytes]:
+            await written.wait()
+            return b"", b""
+
+        process = mock.Mock(returncode=0, communicate=communicate)
+        policy = LeastWorst(mock.Mock(), mock.Mock(), "roman", PATIENCE, mock.Mock())
+        with mock.patch.object(asyncio, "create_subprocess_exec", mock.AsyncMock(return_value=process)):
+            asking = asyncio.create_task(policy._ask(mock.Mock()))
+            for _ in range(3):
+                await asyncio.sleep(0)
+            written.set()
+            for _ in range(rounds):
+                await asyncio.sleep(0)
+            is_open = asking.cancel()
+            await asyncio.wait({asking})
+        assert asking.cancelled() == is_open
