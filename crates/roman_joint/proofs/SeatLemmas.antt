@@ -1,5 +1,5 @@
 -- Services and their behaviours, read one after another.
-use Rattle.roman_joint.proofs.Common.{map-map, All, List, Some, [], ap, ap₂, arith, get_or, inl, inr, length, map, refl, subst, sym, take, ℕ, ◌++◌, ◌+◌, ◌-◌, ◌<◌, ◌==◌, ◌∙◌, ◌∷◌, ◌≡◌, ◌≤◌, All-map, All-push, recursion_from_All, AllByRecursion, Env, IsBeh, IsDeterministic, IsEnv, IsSys, IsIn, is_empty, IsOver, NamedBeh, NamedEnv, IsOverEnv, NamedSys, beh_at, seat_of, system_of, MAX_SERVICES, Sizes, sizes_of, length-map, length-set, map_push, take_more, take_more_set, ne_eqb, set, slice_get-get_or}
+use Rattle.roman_joint.proofs.Common.{HaveBehaviours, seat_sizes, map-map, All, List, Some, [], ap, ap₂, arith, get_or, inl, inr, length, map, refl, subst, sym, take, ℕ, ◌++◌, ◌+◌, ◌-◌, ◌<◌, ◌==◌, ◌∙◌, ◌∷◌, ◌≡◌, ◌≤◌, All-map, All-push, recursion_from_All, AllByRecursion, Env, IsBeh, IsDeterministic, IsEnv, IsSys, IsIn, is_empty, IsOver, NamedBeh, NamedEnv, IsOverEnv, NamedSys, beh_at, seat_of, system_of, MAX_SERVICES, Sizes, sizes_of, length-map, length-set, map_push, take_more, take_more_set, ne_eqb, set, slice_get-get_or}
 use Rattle.roman_model.specs.System as model
 use Rattle.roman_joint.specs.declared.seat.Seat.{Seat}
 use Rattle.roman_joint.proofs.BehaviourLemmas.{beh_read}
@@ -16,9 +16,9 @@ states_range y known =
 
 -- the first services are read: their sizes, and that their behaviours are in range over the environment
 pub record AreRead (catalogue : List NamedBeh) (seats : List Seat) (table : List ℕ) (k : ℕ) : Type 0 where
-  pub sizes : take k table ≡ map (λ seat. (beh_at catalogue seat.behaviour).states) (take k seats)
+  pub sizes : take k table ≡ seat_sizes catalogue (take k seats)
   pub long : length table ≡ 32
-  pub known : (environment : NamedEnv) → All (IsOverEnv environment) catalogue → All (λ seat. IsBeh environment.env (beh_at catalogue seat.behaviour)) (take k seats)
+  pub known : (environment : NamedEnv) → All (IsOverEnv environment) catalogue → HaveBehaviours environment.env catalogue (take k seats)
 
 pub one_read : (catalogue : List NamedBeh) (seats : List Seat) (sizes : List ℕ) (k size : ℕ) (x : Seat) (y : NamedBeh) → k < length seats → k < 32 →
     x ≡ get_or seats k x → y ≡ get_or catalogue x.behaviour y → x.behaviour < length catalogue → size ≡ y.beh.states → IsOver y.env_states y.actions y.beh →
@@ -35,11 +35,11 @@ one_read catalogue seats sizes k size x y within room at_seat at_beh place is ov
       known = λ environment are.
           let over_env : IsOverEnv environment y = subst (IsOverEnv environment) (sym at_beh) (are x.behaviour y place) in
           let beh : IsBeh environment.env (beh_at catalogue x.behaviour) = subst (IsBeh environment.env) read (over environment.env (sym over_env.0) (sym over_env.1)) in
-          subst (All (λ seat. IsBeh environment.env (beh_at catalogue seat.behaviour))) (sym more) (All-push (λ seat. IsBeh environment.env (beh_at catalogue seat.behaviour)) (take k seats) x (so_far.known environment are) beh);
+          subst (HaveBehaviours environment.env catalogue) (sym more) (All-push (λ seat. IsBeh environment.env (beh_at catalogue seat.behaviour)) (take k seats) x (so_far.known environment are) beh);
     }
 
 -- the seats' sizes are those of the system
-pub same_sizes : (catalogue : List NamedBeh) (seats : List Seat) → map (λ seat. (beh_at catalogue seat.behaviour).states) seats ≡ map (λ x. x.beh.states) (map (seat_of catalogue) seats)
+pub same_sizes : (catalogue : List NamedBeh) (seats : List Seat) → seat_sizes catalogue seats ≡ map (λ x. x.beh.states) (map (seat_of catalogue) seats)
 same_sizes catalogue seats = sym (map-map (λ x. x.beh.states) (seat_of catalogue) seats)
 
 -- what holds of the services' behaviours holds of the system's seats
@@ -50,7 +50,7 @@ seats_known catalogue (seat ∷ seats) env h x (inl e) = subst (λ (y : model.Se
 seats_known catalogue (seat ∷ seats) env h x (inr i) = seats_known catalogue seats env h.1 x i
 
 -- each service has states
-pub positive_sizes : (catalogue : List NamedBeh) (seats : List Seat) (env : Env) → All (λ seat. IsBeh env (beh_at catalogue seat.behaviour)) seats → All (λ size. 0 < size) (map (λ seat. (beh_at catalogue seat.behaviour).states) seats)
+pub positive_sizes : (catalogue : List NamedBeh) (seats : List Seat) (env : Env) → HaveBehaviours env catalogue seats → All (λ size. 0 < size) (seat_sizes catalogue seats)
 positive_sizes catalogue seats env h = All-map (λ size. 0 < size) (λ seat. (beh_at catalogue seat.behaviour).states) seats (λ k seat l. (h k seat l).states.0)
 
 pub len_empty : (xs : List ℕ) → (length xs == 0) ≡ is_empty xs
@@ -59,12 +59,12 @@ len_empty (x ∷ xs) = ne_eqb (length (x ∷ xs)) 0 (λ e. let none : ⊥ = omeg
 
 -- the sizes that were counted are those of the system
 pub sizes_counted : (n : NamedSys) (t e : ℕ) (table : List ℕ) → t ≡ n.target.beh.states → e ≡ n.environment.env.states →
-    take (length n.seats) table ≡ map (λ seat. (beh_at n.catalogue seat.behaviour).states) n.seats →
+    take (length n.seats) table ≡ seat_sizes n.catalogue n.seats →
     ◌≡◌ {A = Sizes} (record { target = t; env = e; seats = take (length n.seats) table }) (sizes_of (system_of n))
 sizes_counted n t e table is_t is_e is_table = rw (is_t, is_e, is_table ∙ same_sizes n.catalogue n.seats) refl
 
 pub makes_system : (n : NamedSys) → IsEnv n.environment.env → IsBeh n.environment.env n.target.beh → IsDeterministic n.target.beh →
-    All (λ seat. IsBeh n.environment.env (beh_at n.catalogue seat.behaviour)) n.seats → length n.seats ≤ MAX_SERVICES → IsSys (system_of n)
+    HaveBehaviours n.environment.env n.catalogue n.seats → length n.seats ≤ MAX_SERVICES → IsSys (system_of n)
 makes_system n env target single seats few =
     let all : length (system_of n).seats ≤ MAX_SERVICES = omega (arith, length-map n.seats (seat_of n.catalogue)) in
     assumption (seats_known n.catalogue n.seats n.environment.env (recursion_from_All _ n.seats seats))

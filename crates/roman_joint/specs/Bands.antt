@@ -10,6 +10,7 @@ use Rattle.roman_radix.specs.Radix.{stride_of}
 use Rattle.roman_radix.specs.Rows.{low_of, lanes_of, row_sizes, env_rows_of}
 use Rattle.roman_lanes.specs.Rows.{is_on, Keeps}
 use Rattle.roman_joint.specs.Rows.{lanes_in, AreAlive, HasAlive, IsRow, IsAttempt}
+use Rattle.roman_joint.specs.Outcomes.{is_missing, is_missing_in}
 use Rattle.roman_joint.specs.declared.outcomes.Outcomes.{Outcomes}
 use Rattle.roman_joint.specs.declared.row.Row.{Row}
 use Rattle.roman_joint.specs.declared.stripes.Stripe.{Stripe}
@@ -32,6 +33,10 @@ target_move_at target_move i = record { base = target_move.base + i; envs = targ
 pub record AllAlive (s : Sys) (gone : ℕ → Bool) (target_move : TargetMove) (alive : List ℕ) : Type 0 where
   pub each : (i : ℕ) → i < band_in s → AreAlive s gone (target_move_at target_move i) (slice_index alive i)
 
+-- whichever pairs are gone, if the attempt's words are those of the others, these words have the alive lanes of its rows
+abbrev pub FollowsAlive : Sys → Attempt → List ℕ → Type 0
+FollowsAlive s attempt alive = (gone : ℕ → Bool) → HasAlive s gone attempt.words.now → AllAlive s gone attempt.to alive
+
 -- the stripe's `alive` has, for each of its states, the words of `many` neighbouring rows; the words of state 0 begin at place `from`
 pub record SuitsStripe (stripe : Stripe) (many : ℕ) : Type 0 where
   pub few : stripe.from + many < 2 ^ 64
@@ -40,12 +45,12 @@ pub record SuitsStripe (stripe : Stripe) (many : ℕ) : Type 0 where
 -- the new word at place i is the old one without those lanes that are set in the words of all states of the stripe
 abbrev pub LosesStripe : Stripe → ℕ → ℕ → ℕ → Type 0
 LosesStripe stripe i old new = (lane : ℕ) → is_on new lane
-    ≡ (is_on old lane && list_any (λ b. not (is_on (slice_index stripe.alive.now (stripe.from + i + b * stripe.stride)) lane)) stripe.states.now)
+    ≡ (is_on old lane && is_missing stripe.alive.now (stripe.from + i) stripe.stride stripe.states.now lane)
 
 -- the new word at place i is the old one without some lanes that are set in all rows of the word, among them all such lanes of `full`; the rows have the numbers of `rows`, each plus i
 pub record LosesAlive (rows : Outcomes) (words : List ℕ) (full i old new : ℕ) : Type 0 where
   pub each : (lane : ℕ) → is_on full lane ≡ true → is_on new lane
-      ≡ (is_on old lane && list_any (λ e. list_any (λ b. not (is_on (slice_index words (rows.base + i + e * rows.env_stride + b * rows.stride)) lane)) rows.states.now) rows.envs.now)
+      ≡ (is_on old lane && is_missing_in words rows i lane)
   pub none : (lane : ℕ) → is_on old lane ≡ false → is_on new lane ≡ false
 
 -- a component of this size and stride, within a band, is in state b and can go to these states
@@ -82,11 +87,15 @@ ClearsServed s attempt alive k old new = ClearsBand s attempt alive (λ gone p. 
 abbrev pub ClearsAllServed : Sys → Attempt → List ℕ → ℕ → List ℕ → List ℕ → Type 0
 ClearsAllServed s attempt alive many old new = ClearsBand s attempt alive (λ gone p. all_below (is_beaten (numbered s) gone p attempt.action) many) old new
 
+-- the states to which seat k goes from its state in the row, by the action
+abbrev pub next_by : Sys → Row → ℕ → ℕ → List ℕ
+next_by s row a k = seat_next (slice_get s.seats k) (slice_index row.states k) row.env a
+
 -- by the action, seat k leads from the row to these rows; the seat is before the lanes, and has a next state
 pub record AreRowsBefore (s : Sys) (row : Row) (target_move : TargetMove) (a k : ℕ) (to : Outcomes) : Type 0 where
   pub base : to.base + slice_index row.states k * to.stride ≡ target_move.base
   pub stride : to.stride * lanes_in s ≡ stride_of (sizes_of s) k
   pub env_stride : to.env_stride ≡ env_rows_of (sizes_of s)
   pub worlds : to.envs.now ≡ target_move.envs.now
-  pub states : to.states.now ≡ seat_next (slice_get s.seats k) (slice_index row.states k) row.env a
+  pub states : to.states.now ≡ next_by s row a k
   pub some : IsFalse (is_empty to.states.now)

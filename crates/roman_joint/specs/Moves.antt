@@ -19,11 +19,23 @@ use Rattle.roman_joint.specs.declared.moves.Moves.{Moves}
 use Rattle.roman_joint.specs.declared.seat.Parts.{Parts}
 use Rattle.roman_joint.specs.declared.shifts.Shifts.{Shifts}
 
+-- each move is by fewer than 64 lanes
+abbrev pub AreSmall : List Move → Type 0
+AreSmall moves = (move : Move) → IsIn move moves → (move.from < 64) × (move.to < 64)
+
+-- the moves from the lane lead to lanes of the word
+abbrev pub StaysWithin : List Move → ℕ → Type 0
+StaysWithin moves lane = (move : Move) → IsIn move moves → is_on move.lanes lane ≡ true → (move.from ≤ lane) × (lane + move.to - move.from < 64)
+
+-- a move leads from the lane to one that isn't alive
+abbrev pub leads_away : List Move → ℕ → ℕ → Bool
+leads_away moves alive lane = list_any (λ move. is_on move.lanes lane && not (is_on alive (lane + move.to - move.from))) moves
+
 -- these are the moves of seat k, from each lane to those of the next states of its state there; `some` are the lanes with a next state
 pub record AreLaneMoves (n : Sizes) (k : ℕ) (next : ℕ → List ℕ) (some : ℕ) (moves : List Move) : Type 0 where
   pub each : (lane : ℕ) → lane < lanes_of n.seats → is_on some lane ≡ not (is_empty (next (lane_state_of n k lane)))
   pub rest : (lane : ℕ) → lanes_of n.seats ≤ lane → is_on some lane ≡ false
-  pub small : (move : Move) → IsIn move moves → (move.from < 64) × (move.to < 64)
+  pub small : AreSmall moves
   pub within : (move : Move) (lane : ℕ) → IsIn move moves → lane < lanes_of n.seats → is_on move.lanes lane ≡ true → (move.from ≤ lane) × (lane + move.to - move.from < lanes_of n.seats)
   pub leads : (test : ℕ → Bool) (lane : ℕ) → lane < lanes_of n.seats → list_any (λ move. is_on move.lanes lane && test (lane + move.to - move.from)) moves
       ≡ list_any (λ b. test (lane + b * stride_of n k - lane_state_of n k lane * stride_of n k)) (next (lane_state_of n k lane))
@@ -35,12 +47,16 @@ AreMovesOf n k beh e a some moves = AreLaneMoves n k (λ b. beh_next beh b e a) 
 -- there are words of alive lanes for `many` rows, and the moves stay below 64 lanes
 pub record SuitsMoving (alive : List ℕ) (moves : List Move) (many : ℕ) : Type 0 where
   pub long : many ≤ length alive
-  pub small : (move : Move) → IsIn move moves → (move.from < 64) × (move.to < 64)
+  pub small : AreSmall moves
+
+-- the word has those lanes of `good` from which all moves lead to alive lanes
+pub record HasAliveMoves (good : ℕ) (moves : List Move) (alive word : ℕ) : Type 0 where
+  pub each : (lane : ℕ) → lane < 64 → StaysWithin moves lane → is_on word lane ≡ (is_on good lane && not (leads_away moves alive lane))
+  pub none : (lane : ℕ) → is_on good lane ≡ false → is_on word lane ≡ false
 
 -- the new word is the old one without those lanes of `some` from which all moves lead to alive lanes
 pub record LosesMoving (some : ℕ) (moves : List Move) (alive old new : ℕ) : Type 0 where
-  pub each : (lane : ℕ) → lane < 64 → ((move : Move) → IsIn move moves → is_on move.lanes lane ≡ true → (move.from ≤ lane) × (lane + move.to - move.from < 64)) →
-      is_on new lane ≡ (is_on old lane && not (is_on some lane && not (list_any (λ move. is_on move.lanes lane && not (is_on alive (lane + move.to - move.from))) moves)))
+  pub each : (lane : ℕ) → lane < 64 → StaysWithin moves lane → is_on new lane ≡ (is_on old lane && not (is_on some lane && not (leads_away moves alive lane)))
   pub none : (lane : ℕ) → is_on old lane ≡ false → is_on new lane ≡ false
 
 -- the rows are those of the sizes, seat k is within the lanes and has the behaviour, and e and a are a state of its environment and an action
@@ -101,17 +117,25 @@ pub record HoldsColumns (s : Sys) (columns : ℕ) (table : Moves) : Type 0 where
   pub few : length table.moves.items ≤ columns * 160
   pub spans_at : HoldsSpans s table.spans.items table.moves.items
 
--- the table is one for systems with this environment, and has room for the moves of the greatest number of services
-pub record SuitsEnv (env : Env) (table : Moves) : Type 0 where
-  pub envs : table.envs ≡ env.states
-  pub actions : table.actions ≡ env.actions
-  pub for_spans : vec_capacity table.spans ≡ env.states * env.actions * 32
-  pub for_moves : vec_capacity table.moves ≡ env.states * env.actions * 160
+-- the table is one for e states of the environment and n actions, and has room for the moves of the greatest number of services
+pub record HasRoomFor (e n : ℕ) (table : Moves) : Type 0 where
+  pub envs : table.envs ≡ e
+  pub actions : table.actions ≡ n
+  pub for_spans : vec_capacity table.spans ≡ e * n * 32
+  pub for_moves : vec_capacity table.moves ≡ e * n * 160
+
+-- the table is one for systems with this environment
+abbrev pub SuitsEnv : Env → Moves → Type 0
+SuitsEnv env table = HasRoomFor env.states env.actions table
+
+-- the table is one for the system's environment, and has the moves of all seats within the lanes in the first `many` columns
+pub record FillsColumns (s : Sys) (many : ℕ) (table : Moves) : Type 0 where
+  pub suits : SuitsEnv s.env table
+  pub columns : HoldsColumns s many table
 
 -- the table has the moves of all seats within the lanes
-pub record HoldsMoves (s : Sys) (table : Moves) : Type 0 where
-  pub suits : SuitsEnv s.env table
-  pub columns : HoldsColumns s (s.env.states * s.env.actions) table
+abbrev pub HoldsMoves : Sys → Moves → Type 0
+HoldsMoves s table = FillsColumns s (s.env.states * s.env.actions) table
 
 -- the table has the same numbers of states of the environment and of actions as before, and the same room
 pub record IsKept (old new : Moves) : Type 0 where

@@ -1,7 +1,8 @@
 -- The numbers of the pairs to which a delegation can lead.
-use Rattle.std.specs.Prelude.{◌≡◌, ℕ, ◌+◌, ◌*◌, ◌^◌, ◌<◌, ◌≤◌, All, List, map, slice_index}
-use Rattle.std.specs.List.{flat_map}
+use Rattle.std.specs.Prelude.{◌≡◌, ℕ, ◌+◌, ◌*◌, ◌^◌, ◌<◌, ◌≤◌, Bool, not, All, List, map, slice_index}
+use Rattle.std.specs.List.{flat_map, list_any}
 use Rattle.roman_model.specs.Numbers.{Sizes, count, pair_at}
+use Rattle.roman_lanes.specs.Rows.{is_on}
 use Rattle.roman_joint.specs.declared.outcomes.Outcomes.{Outcomes}
 
 -- the number of the pair with the environment's state e and the seat's state b
@@ -32,3 +33,11 @@ pub record SuitsRows (rows : Outcomes) (many long : ℕ) : Type 0 where
   pub envs : All (λ e. rows.base + e * rows.env_stride < 2 ^ 32) rows.envs.now
   pub fits : AllOutcomes rows (λ e b. outcome_number rows e b < 2 ^ 32)
   pub within : AllOutcomes rows (λ e b. outcome_number rows e b + many ≤ long)
+
+-- the lane isn't set in all of the rows base + b * stride, for the states b
+abbrev pub is_missing : List ℕ → ℕ → ℕ → List ℕ → ℕ → Bool
+is_missing words base stride states lane = list_any (λ b. not (is_on (slice_index words (base + b * stride)) lane)) states
+
+-- the lane isn't set in all of the rows with the numbers of `rows`, each plus i
+abbrev pub is_missing_in : List ℕ → Outcomes → ℕ → ℕ → Bool
+is_missing_in words rows i lane = list_any (λ e. is_missing words (rows.base + i + e * rows.env_stride) rows.stride rows.states.now lane) rows.envs.now

@@ -1,5 +1,5 @@
 -- Short names for contracts: the pairs, actions and seats of a joint.
-use Rattle.std.specs.Prelude.{ℕ, Option, slice_get, slice_index}
+use Rattle.std.specs.Prelude.{ℕ, Option, IsTrue, slice_get, slice_index}
 use Rattle.roman_model.specs.Arena.{Arena}
 use Rattle.roman_model.specs.System.{Pair, Seat}
 use Rattle.roman_model.specs.Numbers.{sizes_of, count, pair_at, numbered}
@@ -28,3 +28,7 @@ seat_states joint k = slice_index (sizes_of (system_of joint)).seats k
 -- the arena over the numbers of the pairs
 abbrev pub arena_of : NamedSys → Arena ℕ
 arena_of joint = numbered (system_of joint)
+
+-- the action is allowed at the pair with the number p
+abbrev pub IsAllowed : NamedSys → ℕ → ℕ → Type 0
+IsAllowed joint p a = IsTrue ((arena_of joint).allows p a)

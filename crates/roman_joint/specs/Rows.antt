@@ -1,5 +1,5 @@
 -- Rows of a system's pairs.
-use Rattle.std.specs.Prelude.{◌≡◌, ℕ, ◌+◌, ◌*◌, ◌/◌, ◌%◌, ◌<◌, ◌≤◌, ◌==◌, ◌&&◌, ◌||◌, ltb, Bool, true, not, List, Option, None, Some, [], ◌∷◌, length, slice_get, slice_index, IsFalse}
+use Rattle.std.specs.Prelude.{◌≡◌, ℕ, ◌+◌, ◌*◌, ◌/◌, ◌%◌, ◌<◌, ◌≤◌, ◌==◌, ◌&&◌, ◌||◌, ltb, Bool, true, false, not, List, Option, None, Some, [], ◌∷◌, length, slice_get, slice_index, IsFalse}
 use Rattle.std.specs.List.{list_any}
 use Rattle.roman_model.specs.Lists.{is_empty, all_below}
 use Rattle.roman_model.specs.System.{Sys, Seat, is_final}
@@ -8,7 +8,8 @@ use Rattle.roman_model.specs.Arena.{is_beaten}
 use Rattle.roman_model.specs.Numbers.{Sizes, sizes_of, count, pair_at, numbered}
 use Rattle.roman_radix.specs.Radix.{IsSizes, stride_of}
 use Rattle.roman_radix.specs.Rows.{low_of, lanes_of, row_sizes, env_rows_of, target_rows_of}
-use Rattle.roman_lanes.specs.Rows.{is_on, AreRows, HasLanes}
+use Rattle.roman_lanes.specs.Rows.{is_on, HasLanes}
+use Rattle.roman_rules.specs.Alive.{AreAliveRows}
 use Rattle.roman_joint.specs.TargetViews.{ArePermitted, AreLeading}
 use Rattle.roman_joint.specs.declared.layout.Layout.{Layout}
 use Rattle.roman_joint.specs.declared.row.Row.{Row}
@@ -30,6 +31,11 @@ lane_has_state stride size b lane = lane / stride % size == b
 -- the state of seat k at a lane
 abbrev pub lane_state_of : Sizes → ℕ → ℕ → ℕ
 lane_state_of n k lane = lane / stride_of n k % slice_index n.seats k
+
+-- the word has exactly the lanes at which seat k is in state b
+pub record AreInState (n : Sizes) (k b word : ℕ) : Type 0 where
+  pub each : (lane : ℕ) → lane < lanes_of n.seats → is_on word lane ≡ lane_has_state (stride_of n k) (slice_index n.seats k) b lane
+  pub rest : (lane : ℕ) → lanes_of n.seats ≤ lane → is_on word lane ≡ false
 
 -- no size is 0, and the rows are those of the sizes: strides of seats before the lanes are counted in rows, and those of seats within them in lanes
 pub record IsLayoutOf (n : Sizes) (r : Layout) : Type 0 where
@@ -82,7 +88,7 @@ pub record AreAlive (s : Sys) (gone : ℕ → Bool) (target_move : TargetMove) (
 
 -- the words have, row by row, the bits of the pairs that aren't gone
 abbrev pub HasAlive : Sys → (ℕ → Bool) → List ℕ → Type 0
-HasAlive s gone words = AreRows (lanes_in s) (λ q. not (gone q)) words
+HasAlive s gone words = AreAliveRows (lanes_in s) gone words
 
 -- the seat may rest in state b: the state is final, or the seat is loose
 abbrev pub may_rest : Option Seat → ℕ → Bool

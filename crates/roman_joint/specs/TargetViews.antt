@@ -5,7 +5,15 @@ use Rattle.roman_model.specs.Lists.{IsIn, is_empty}
 use Rattle.roman_model.specs.System.{Env, Beh}
 use Rattle.roman_model.specs.SystemArena.{env_next, env_prev, beh_next, beh_prev}
 use Rattle.roman_rules.specs.Bits.{bit_of}
+use Rattle.roman_parts.specs.Named.{NamedEnv, NamedTarget}
+use Rattle.roman_joint.specs.NamedSys.{TargetIsOverEnv}
 use Rattle.roman_joint.specs.declared.target_view.TargetView.{TargetView}
+
+-- the target is made over the environment, and t and e are their states
+pub record AreStates (environment : NamedEnv) (target : NamedTarget) (t e : ℕ) : Type 0 where
+  pub over : TargetIsOverEnv environment target
+  pub target_range : t < target.beh.states
+  pub env_range : e < environment.env.states
 
 -- the bits are those of the actions that are allowed in t and e
 pub record ArePermitted (env : Env) (target : Beh) (t e bits : ℕ) : Type 0 where

@@ -1,5 +1,5 @@
 -- Walks backwards from a pair.
-use Rattle.std.specs.Prelude.{◌≡◌, ℕ, ◌+◌, ◌-◌, ◌*◌, ◌^◌, ◌<◌, ◌≤◌, List, [], ◌++◌, length, drop, slice_get, slice_index}
+use Rattle.std.specs.Prelude.{◌≡◌, ℕ, ◌+◌, ◌-◌, ◌*◌, ◌^◌, ◌<◌, ◌≤◌, Bool, MatchBool, List, [], ◌∷◌, ◌++◌, length, drop, slice_get, slice_index}
 use Rattle.std.specs.List.{flat_map}
 use Rattle.roman_model.specs.Lists.{below}
 use Rattle.roman_model.specs.System.{Sys, Pair}
@@ -7,6 +7,7 @@ use Rattle.roman_model.specs.SystemArena.{env_prev, beh_prev}
 use Rattle.roman_model.specs.Arena.{Delegation}
 use Rattle.roman_model.specs.Numbers.{sizes_of, count, pair_at}
 use Rattle.roman_joint.specs.declared.walk.Walk.{Walk}
+use Rattle.roman_joint.specs.NamedSys.{NamedSys, system_of}
 use Rattle.roman_joint.specs.Backward.{seat_prev, from_states, from_seat, from_target, from_env, from_action}
 
 -- the pair to which the walk's delegations lead
@@ -63,3 +64,15 @@ pub record WalkGoesOn (s : Sys) (old new : Walk) : Type 0 where
   pub walk : IsWalk s new
   pub left : left s new ≡ left s old
   pub falls : walk_left s new < walk_left s old
+
+-- no delegations of this kind are left
+abbrev pub IsDone : (Sys → Walk → List (Delegation ℕ)) → NamedSys → Walk → Type 0
+IsDone rest joint walk = rest (system_of joint) walk ≡ []
+
+-- the walk goes on, or it stays where it is and no delegations of this kind are left
+abbrev pub GoesOnUnlessDone : (Sys → Walk → List (Delegation ℕ)) → NamedSys → Bool → Walk → Walk → Type 0
+GoesOnUnlessDone rest joint goes_on old new = MatchBool goes_on (WalkGoesOn (system_of joint) old new) ((new ≡ old) × IsDone rest joint old)
+
+-- the first remaining delegation is that of action a to seat k at the pair with the number p, and it is taken
+abbrev pub TakesFirst : NamedSys → Walk → Walk → ℕ → ℕ → ℕ → Type 0
+TakesFirst joint old new p a k = left (system_of joint) old ≡ record { node = p; action = a; seat = k } ∷ left (system_of joint) new

@@ -1,10 +1,9 @@
 //! The states to which an action leads from a row, whichever service serves it.
-ghost use Rattle.std.specs.Prelude.{◌≡◌, ℕ, ◌<◌, [], IsFalse, MatchOption, slice_index};
-ghost use Rattle.roman_model.specs.SystemArena.{seat_next};
+ghost use Rattle.std.specs.Prelude.{◌≡◌, ℕ, ◌<◌, [], IsFalse, MatchOption};
 ghost use Rattle.roman_joint.specs.NamedSys.{system_of};
 ghost use Rattle.roman_joint.specs.Rows.{low_in, IsRow, IsTargetMove, IsAttempt, is_open};
-ghost use Rattle.roman_joint.specs.Bands.{AreRowsBefore};
-ghost use Rattle.roman_joint.specs.Pairs.{joint_seat, joint_actions};
+ghost use Rattle.roman_joint.specs.Bands.{next_by, AreRowsBefore};
+ghost use Rattle.roman_joint.specs.Pairs.{joint_actions};
 
 use crate::joint::Joint;
 use crate::outcomes::Outcomes;
@@ -66,10 +65,8 @@ pub(crate) fn rows_before<'a>(
 ) -> Option<Outcomes<'a>>
     requires attempt { (x : ℕ) × IsAttempt (system_of joint.now) x attempt.now }
     requires seat { k < low_in (system_of joint.now) }
-    ensures { MatchOption result
-        (seat_next (joint_seat joint.now k)
-        (slice_index attempt.now.row.now.states k) attempt.now.row.now.env attempt.now.action ≡ [])
-        (AreRowsBefore (system_of joint.now) attempt.now.row.now attempt.now.to attempt.now.action k) }
+    ensures { let s = system_of joint.now in let at = attempt.now in
+        MatchOption result (next_by s at.row.now at.action k ≡ []) (AreRowsBefore s at.row.now at.to at.action k) }
 {
     let rows = joint.layout();
     let b = attempt.row.states[k as usize];

@@ -6,7 +6,7 @@ ghost use Rattle.roman_model.specs.Numbers.{count, numbered};
 ghost use Rattle.roman_lanes.specs.Rows.{Keeps};
 ghost use Rattle.roman_joint.specs.NamedSys.{system_of};
 ghost use Rattle.roman_joint.specs.Rows.{lanes_in, low_in, HasAlive, IsRow};
-ghost use Rattle.roman_joint.specs.Bands.{mid_in, band_in, AllAlive, IsBandAttempt, SuitsBand, ClearsServed, ClearsAllServed};
+ghost use Rattle.roman_joint.specs.Bands.{mid_in, band_in, AllAlive, FollowsAlive, IsBandAttempt, SuitsBand, ClearsServed, ClearsAllServed};
 
 use crate::attempt::{Attempt, rows_before, target_move_of};
 use crate::joint::Joint;
@@ -39,8 +39,7 @@ pub(crate) fn alive_each(joint: &Joint, attempt: &Attempt<'_>, alive: &mut [u64]
     requires attempt { IsBandAttempt (system_of joint.now) attempt.now }
     requires long { band_in (system_of joint.now) ≤ length alive.old }
     ensures long { length alive.new ≡ length alive.old }
-    ensures alive { (gone : ℕ → Bool) → HasAlive (system_of joint.now) gone attempt.now.words.now →
-        AllAlive (system_of joint.now) gone attempt.now.to alive.new }
+    ensures alive { FollowsAlive (system_of joint.now) attempt.now alive.new }
 {
     let rows = joint.layout();
     let many = rows.band as usize;
@@ -56,8 +55,8 @@ pub(crate) fn alive_each(joint: &Joint, attempt: &Attempt<'_>, alive: &mut [u64]
 fn only_row(joint: &Joint, attempt: &Attempt<'_>) -> Option<usize>
     requires attempt { IsBandAttempt (system_of joint.now) attempt.now }
     ensures within { IfSome result (λ from. from + band_in (system_of joint.now) ≤ length attempt.now.words.now) }
-    ensures alive { (gone : ℕ → Bool) → HasAlive (system_of joint.now) gone attempt.now.words.now →
-        IfSome result (λ from. AllAlive (system_of joint.now) gone attempt.now.to (drop from attempt.now.words.now)) }
+    ensures alive { IfSome result (λ from.
+        FollowsAlive (system_of joint.now) attempt.now (drop from attempt.now.words.now)) }
 {
     let rows = joint.layout();
     let to = &attempt.to;

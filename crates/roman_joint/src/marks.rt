@@ -72,9 +72,9 @@ fn mark_seat<L: Ledger>(by: &Arrival<'_>, marks: &mut [u64], base: u64, k: u8, s
     requires arrival { IsArrival by.now }
     requires base { base < 2 ^ 50 }
     requires seat { k < mid_in (system_of by.now.joint.now) }
-    ensures { let s = system_of by.now.joint.now in
-        Marks (IsBeforeSeat s by.now.row.now by.now.action by.now.env base k)
-        (seat_steps s by.now.row.now by.now.action by.now.env k) marks.old marks.new steps.old steps.new }
+    ensures { let b = by.now in let s = system_of b.joint.now in
+        Marks (IsBeforeSeat s b.row.now b.action b.env base k)
+        (seat_steps s b.row.now b.action b.env k) marks.old marks.new steps.old steps.new }
 {
     let rows = by.joint.layout();
     let own = by.row.states[k as usize];

@@ -3,7 +3,7 @@
 //! they move. Moves don't depend on whether a service is frozen.
 ghost use Rattle.std.specs.Prelude.{◌≡◌, ◌+◌, ◌-◌, ◌*◌, ◌<◌, ◌≤◌, ◌++◌, ◌∷◌, [], ◌==◌, if◌then◌else◌, length, slice_index, slice_range, vec_len, vec_capacity, IfOk};
 ghost use Rattle.roman_joint.specs.Rows.{IsLayoutOf};
-ghost use Rattle.roman_joint.specs.Moves.{lane_moves_from, move_by, system_in, AreSeatsIn, SuitsShifts, SuitsEnv, HoldsColumns, HoldsMoves, HasPlaces, IsAdded};
+ghost use Rattle.roman_joint.specs.Moves.{lane_moves_from, move_by, system_in, AreSeatsIn, SuitsShifts, SuitsEnv, HasRoomFor, FillsColumns, HoldsMoves, HasPlaces, IsAdded};
 
 use crate::layout::Layout;
 use crate::seat::Parts;
@@ -97,10 +97,7 @@ impl Moves {
     /// when out of memory.
     pub(crate) fn reserve(alloc: Global, envs: u32, actions: u32) -> Result<Moves, AllocError>
         requires few { (envs ≤ 64) × (actions ≤ 32) }
-        ensures envs { IfOk result (λ moves. moves.envs ≡ envs) }
-        ensures actions { IfOk result (λ moves. moves.actions ≡ actions) }
-        ensures spans { IfOk result (λ moves. vec_capacity moves.spans ≡ envs * actions * 32) }
-        ensures moves { IfOk result (λ moves. vec_capacity moves.moves ≡ envs * actions * 160) }
+        ensures { IfOk result (HasRoomFor envs actions) }
     {
         let columns = envs * actions;
         let spans = Vec::with_capacity(alloc, (columns * MAX_SPANS) as usize)?;
@@ -142,11 +139,9 @@ impl Moves {
     fn fill_column(&mut self, parts: &Parts<'_>, shape: &Shape, rows: &Layout, column: u32)
         requires seats { AreSeatsIn parts.now shape.now }
         requires rows { IsLayoutOf shape.now rows.now }
-        requires suits { SuitsEnv parts.now.environment.now.env self.old }
-        requires column { column < parts.now.environment.now.env.states * parts.now.environment.now.env.actions }
-        requires columns { HoldsColumns (system_in parts.now) column self.old }
-        ensures suits { SuitsEnv parts.now.environment.now.env self.new }
-        ensures columns { HoldsColumns (system_in parts.now) (column + 1) self.new }
+        requires column { let env = (system_in parts.now).env in column < env.states * env.actions }
+        requires filled { FillsColumns (system_in parts.now) column self.old }
+        ensures { FillsColumns (system_in parts.now) (column + 1) self.new }
     {
         let e = (column / self.actions) as u8;
         let a = (column % self.actions) as u8;

@@ -1,8 +1,6 @@
 //! Clears the lanes at which a service within the lanes serves an action.
 ghost use Rattle.std.specs.Prelude.{◌≡◌, ℕ, ◌+◌, ◌<◌, ◌≤◌, length, slice_index};
-ghost use Rattle.roman_model.specs.Lists.{IsIn};
-ghost use Rattle.roman_joint.specs.Moves.{SuitsMoving, LosesMoving};
-ghost use Rattle.roman_joint.specs.declared.moves.Move.{Move};
+ghost use Rattle.roman_joint.specs.Moves.{AreSmall, SuitsMoving, LosesMoving};
 
 use crate::moves::Move;
 use crate::words::each_moves_alive;
@@ -48,7 +46,7 @@ impl<const N: usize> ChangeOf<N> for Moving<'_> {
 /// of `alive` at its place.
 pub(crate) fn clear_moving(left: &mut [u64], alive: &[u64], moves: &[Move], some: u64)
     requires alive { length left.old ≤ length alive.now }
-    requires moves { (move : Move) → IsIn move moves.now → (move.from < 64) × (move.to < 64) }
+    requires moves { AreSmall moves.now }
     ensures long { length left.new ≡ length left.old }
     ensures each { (i : ℕ) → i < length left.old → LosesMoving some moves.now (slice_index alive.now i)
         (slice_index left.old i) (slice_index left.new i) }

@@ -1,10 +1,11 @@
 //! The services of a joint: copies, sizes, and the shape of these sizes.
-ghost use Rattle.std.specs.Prelude.{◌≡◌, ◌≤◌, ◌<◌, ◌↔◌, All, length, map, take, IsSome, IfSome, IfOk, vec_capacity};
-ghost use Rattle.roman_model.specs.System.{IsSys, IsBeh};
+ghost use Rattle.std.specs.Prelude.{◌≡◌, ◌≤◌, ◌↔◌, All, length, take, IsSome, IfSome, IfOk, vec_capacity};
+ghost use Rattle.roman_model.specs.System.{IsSys};
 ghost use Rattle.roman_model.specs.Numbers.{sizes_of};
 ghost use Rattle.roman_model.specs.declared.limits.TheConstants.{MAX_SERVICES};
 ghost use Rattle.roman_parts.specs.Named.{NamedEnv};
-ghost use Rattle.roman_joint.specs.NamedSys.{beh_at, system_of, cells, IsOverEnv, TargetIsOverEnv};
+ghost use Rattle.roman_joint.specs.Behaviours.{seat_sizes, ArePlaced, HaveBehaviours};
+ghost use Rattle.roman_joint.specs.NamedSys.{system_of, cells, IsOverEnv, TargetIsOverEnv};
 ghost use Rattle.roman_joint.specs.Parts.{named_in};
 
 use crate::seat::{Parts, Seat};
@@ -26,11 +27,10 @@ pub(crate) fn copy_seats(alloc: Global, seats: &[Seat]) -> Result<Vec<Seat>, All
 /// Returns the number of states of each service, in the first places of a table.
 pub(crate) fn sizes_of_seats(catalogue: &[Behaviour], seats: &[Seat]) -> [u8; PLACES]
     requires few { length seats.now ≤ MAX_SERVICES }
-    requires behaviours { All (λ seat. seat.behaviour < length catalogue.now) seats.now }
-    ensures sizes { take (length seats.now) result
-        ≡ map (λ seat. (beh_at catalogue.now seat.behaviour).states) seats.now }
-    ensures known { (environment : NamedEnv) → All (IsOverEnv environment) catalogue.now
-        → All (λ seat. IsBeh environment.env (beh_at catalogue.now seat.behaviour)) seats.now }
+    requires behaviours { ArePlaced catalogue.now seats.now }
+    ensures sizes { take (length seats.now) result ≡ seat_sizes catalogue.now seats.now }
+    ensures known { (env : NamedEnv) → All (IsOverEnv env) catalogue.now →
+        HaveBehaviours env.env catalogue.now seats.now }
 {
     let mut sizes = [0; PLACES];
     for (k, seat) in seats.iter().enumerate() {
@@ -45,7 +45,7 @@ pub(crate) fn shape_of(parts: &Parts<'_>, limit: u32) -> Option<Shape>
     requires catalogue { All (IsOverEnv parts.now.environment.now) parts.now.catalogue.now }
     requires target { TargetIsOverEnv parts.now.environment.now parts.now.target.now }
     requires few { length parts.now.seats.now ≤ MAX_SERVICES }
-    requires behaviours { All (λ seat. seat.behaviour < length parts.now.catalogue.now) parts.now.seats.now }
+    requires behaviours { ArePlaced parts.now.catalogue.now parts.now.seats.now }
     ensures system { IsSys (system_of (named_in parts.now limit)) }
     ensures fits { IsSome result ↔ (cells (system_of (named_in parts.now limit)) ≤ limit) }
     ensures shape { IfSome result (λ shape. shape ≡ sizes_of (system_of (named_in parts.now limit))) }

@@ -1,14 +1,12 @@
 //! The states of services: present, next and predecessor states, and the states in which they may rest.
-ghost use Rattle.std.specs.Prelude.{◌≡◌, ℕ, ◌/◌, ◌%◌, ◌<◌, ◌≤◌, false, length, slice_index, All};
+ghost use Rattle.std.specs.Prelude.{◌≡◌, ℕ, ◌/◌, ◌%◌, ◌<◌, ◌≤◌, length, slice_index, All};
 ghost use Rattle.roman_model.specs.SystemArena.{seat_next};
 ghost use Rattle.roman_model.specs.Numbers.{sizes_of};
-ghost use Rattle.roman_radix.specs.Radix.{stride_of};
-ghost use Rattle.roman_radix.specs.Rows.{low_of, lanes_of, row_sizes};
-ghost use Rattle.roman_lanes.specs.Rows.{is_on};
+ghost use Rattle.roman_radix.specs.Rows.{low_of, row_sizes};
 ghost use Rattle.roman_joint.specs.NamedSys.{system_of};
 ghost use Rattle.roman_joint.specs.Backward.{seat_prev};
 ghost use Rattle.roman_joint.specs.Behaviours.{IsServiceAt};
-ghost use Rattle.roman_joint.specs.Rows.{low_in, lane_has_state, lane_state_of, IsLayoutOf, may_rest as may_rest_in};
+ghost use Rattle.roman_joint.specs.Rows.{low_in, lane_state_of, AreInState, IsLayoutOf, may_rest as may_rest_in};
 ghost use Rattle.roman_joint.specs.Pairs.{joint_seat, seat_states, joint_actions};
 
 use crate::joint::Joint;
@@ -112,9 +110,7 @@ pub(crate) fn state_lanes(shape: &Shape, rows: &Layout, k: u8, b: u8) -> u64
     requires within { low_of shape.now.seats ≤ k }
     requires seat { k < length shape.now.seats }
     requires state { b < slice_index shape.now.seats k }
-    ensures each { (lane : ℕ) → lane < lanes_of shape.now.seats → is_on result lane
-        ≡ lane_has_state (stride_of shape.now k) (slice_index shape.now.seats k) b lane }
-    ensures rest { (lane : ℕ) → lanes_of shape.now.seats ≤ lane → is_on result lane ≡ false }
+    ensures { AreInState shape.now k b result }
 {
     let from = u32::from(b) * rows.strides[k as usize];
     (rows.firsts[k as usize] << from) & rows.full

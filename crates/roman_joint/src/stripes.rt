@@ -1,8 +1,7 @@
 //! Stripes: the words of neighbouring rows, which are combined word by word.
 ghost use Rattle.std.specs.Prelude.{◌≡◌, ◌≢◌, ℕ, ◌+◌, ◌-◌, ◌*◌, ◌/◌, ◌%◌, ◌<◌, ◌≤◌, not, ◌&&◌, false, length, slice_index, bit_and};
-ghost use Rattle.std.specs.List.{list_any};
 ghost use Rattle.roman_lanes.specs.Rows.{is_on};
-ghost use Rattle.roman_joint.specs.Outcomes.{AreWithin, SuitsRows};
+ghost use Rattle.roman_joint.specs.Outcomes.{is_missing, is_missing_in, AreWithin, SuitsRows};
 ghost use Rattle.roman_joint.specs.Bands.{SuitsStripe, LosesStripe, LosesAlive, CanGo};
 
 use crate::outcomes::Outcomes;
@@ -45,8 +44,7 @@ pub(crate) fn rows_alive_each(all: &mut [u64], words: &[u64], base: u32, states:
     requires { AreWithin base stride (length all.old) (length words.now) states.now }
     ensures long { length all.new ≡ length all.old }
     ensures each { (i lane : ℕ) → i < length all.old → is_on (slice_index all.new i) lane
-        ≡ (is_on (slice_index all.old i) lane
-        && not (list_any (λ b. not (is_on (slice_index words.now (base + i + b * stride)) lane)) states.now)) }
+        ≡ (is_on (slice_index all.old i) lane && not (is_missing words.now (base + i) stride states.now lane)) }
 {
     for state in states {
         let from = (base + u32::from(*state) * stride) as usize;
@@ -59,10 +57,8 @@ pub(crate) fn rows_alive_each(all: &mut [u64], words: &[u64], base: u32, states:
 pub(crate) fn all_alive_each(all: &mut [u64], words: &[u64], rows: &Outcomes<'_>)
     requires { SuitsRows rows.now (length all.old) (length words.now) }
     ensures long { length all.new ≡ length all.old }
-    ensures each { let states = rows.now.states.now in
-        (i lane : ℕ) → i < length all.old → is_on (slice_index all.new i) lane ≡ (is_on (slice_index all.old i) lane
-        && not (list_any (λ e. list_any (λ b. not (is_on (slice_index words.now
-        (rows.now.base + i + e * rows.now.env_stride + b * rows.now.stride)) lane)) states) rows.now.envs.now)) }
+    ensures each { (i lane : ℕ) → i < length all.old → is_on (slice_index all.new i) lane
+        ≡ (is_on (slice_index all.old i) lane && not (is_missing_in words.now rows.now i lane)) }
 {
     for env in rows.envs {
         let from = rows.base + u32::from(*env) * rows.env_stride;

@@ -4,7 +4,7 @@ ghost use Rattle.std.specs.Prelude.{◌≡◌, ℕ, ◌<◌, [], IsFalse, IfOk};
 ghost use Rattle.roman_model.specs.Lists.{IsIn};
 ghost use Rattle.roman_model.specs.SystemArena.{env_prev, beh_prev};
 ghost use Rattle.roman_joint.specs.NamedSys.{TargetIsOverEnv};
-ghost use Rattle.roman_joint.specs.TargetViews.{ArePermitted, AreLeading, IsTargetView, AreTargetViews};
+ghost use Rattle.roman_joint.specs.TargetViews.{AreStates, ArePermitted, AreLeading, IsTargetView, AreTargetViews};
 
 use roman_parts::{Environment, Target};
 use roman_rules::with_bit;
@@ -44,9 +44,7 @@ pub(crate) fn all_target_views(
 
 /// Returns the target view of these states.
 fn target_view_of(environment: &Environment, target: &Target, t: u8, e: u8) -> TargetView
-    requires over { TargetIsOverEnv environment.now target.now }
-    requires target { t < target.now.beh.states }
-    requires env { e < environment.now.env.states }
+    requires { AreStates environment.now target.now t e }
     ensures { IsTargetView environment.now.env target.now.beh t e result }
 {
     TargetView {
@@ -59,9 +57,7 @@ fn target_view_of(environment: &Environment, target: &Target, t: u8, e: u8) -> T
 
 /// Returns the actions that are allowed in these states.
 fn allowed_in(environment: &Environment, target: &Target, t: u8, e: u8) -> u32
-    requires over { TargetIsOverEnv environment.now target.now }
-    requires target { t < target.now.beh.states }
-    requires env { e < environment.now.env.states }
+    requires { AreStates environment.now target.now t e }
     ensures { ArePermitted environment.now.env target.now.beh t e result }
 {
     let mut allowed = 0;
@@ -74,9 +70,7 @@ fn allowed_in(environment: &Environment, target: &Target, t: u8, e: u8) -> u32
 
 /// Returns the actions that can lead to these states.
 fn leading_to(environment: &Environment, target: &Target, t2: u8, e2: u8) -> u32
-    requires over { TargetIsOverEnv environment.now target.now }
-    requires target { t2 < target.now.beh.states }
-    requires env { e2 < environment.now.env.states }
+    requires { AreStates environment.now target.now t2 e2 }
     ensures { AreLeading environment.now.env target.now.beh t2 e2 result }
 {
     let mut leading = 0;
@@ -90,9 +84,7 @@ fn leading_to(environment: &Environment, target: &Target, t2: u8, e2: u8) -> u32
 /// Returns whether an action can lead to these states, from some states of the environment and the
 /// target.
 fn may_lead(environment: &Environment, target: &Target, t2: u8, e2: u8, a: u8) -> bool
-    requires over { TargetIsOverEnv environment.now target.now }
-    requires target { t2 < target.now.beh.states }
-    requires env { e2 < environment.now.env.states }
+    requires states { AreStates environment.now target.now t2 e2 }
     requires action { a < environment.now.env.actions }
     ensures { IsFalse result → (e : ℕ) → IsIn e (env_prev environment.now.env e2 a) → beh_prev target.now.beh t2 e a
         ≡ [] }

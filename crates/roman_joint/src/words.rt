@@ -1,10 +1,9 @@
 //! Combines the words of several rows.
-ghost use Rattle.std.specs.Prelude.{◌≡◌, ℕ, ◌+◌, ◌-◌, ◌*◌, ◌<◌, ◌≤◌, false, not, true, ◌&&◌, ◌||◌, length, slice_index};
+ghost use Rattle.std.specs.Prelude.{◌≡◌, ℕ, ◌+◌, ◌-◌, ◌*◌, ◌<◌, ◌≤◌, not, ◌&&◌, ◌||◌, length, slice_index};
 ghost use Rattle.std.specs.List.{list_any};
-ghost use Rattle.roman_model.specs.Lists.{IsIn};
 ghost use Rattle.roman_lanes.specs.Rows.{is_on};
-ghost use Rattle.roman_joint.specs.Outcomes.{outcome_number, AreWithin, SuitsRows};
-ghost use Rattle.roman_joint.specs.declared.moves.Move.{Move};
+ghost use Rattle.roman_joint.specs.Outcomes.{outcome_number, is_missing, AreWithin, SuitsRows};
+ghost use Rattle.roman_joint.specs.Moves.{AreSmall, HasAliveMoves};
 
 use crate::moves::Move;
 use crate::outcomes::Outcomes;
@@ -14,8 +13,7 @@ use std::simd::prelude::*;
 pub(crate) fn rows_alive(words: &[u64], base: u32, states: &[u8], stride: u32, good: u64) -> u64
     requires { AreWithin base stride 1 (length words.now) states.now }
     ensures { (lane : ℕ) → is_on result lane
-        ≡ (is_on good lane
-        && not (list_any (λ b. not (is_on (slice_index words.now (base + b * stride)) lane)) states.now)) }
+        ≡ (is_on good lane && not (is_missing words.now base stride states.now lane)) }
 {
     let mut alive = good;
     for state in states {
@@ -75,14 +73,9 @@ pub(crate) fn each_moves_alive<const N: usize>(
     moves: &[Move],
     good: u64,
 ) -> Simd<u64, N>
-    requires { (move : Move) → IsIn move moves.now → (move.from < 64) × (move.to < 64) }
+    requires { AreSmall moves.now }
     ensures long { length result ≡ N }
-    ensures alive { (i lane : ℕ) → i < N → lane < 64 → ((move : Move) → IsIn move moves.now → is_on move.lanes lane
-        ≡ true → (move.from ≤ lane) × (lane + move.to - move.from < 64)) →
-        is_on (slice_index result i) lane ≡ (is_on good lane
-        && not (list_any (λ move. is_on move.lanes lane
-        && not (is_on (slice_index alive.entry i) (lane + move.to - move.from))) moves.now)) }
-    ensures within { (i lane : ℕ) → i < N → is_on good lane ≡ false → is_on (slice_index result i) lane ≡ false }
+    ensures each { (i : ℕ) → i < N → HasAliveMoves good moves.now (slice_index alive.entry i) (slice_index result i) }
 {
     let mut left = Simd::<u64, N>::splat(good);
     for step in moves {
@@ -93,12 +86,8 @@ pub(crate) fn each_moves_alive<const N: usize>(
 
 /// Returns the lanes of `good` from which all moves lead to lanes of `alive`.
 pub(crate) fn moves_alive(alive: u64, moves: &[Move], good: u64) -> u64
-    requires { (move : Move) → IsIn move moves.now → (move.from < 64) × (move.to < 64) }
-    ensures alive { (lane : ℕ) → lane < 64 → ((move : Move) → IsIn move moves.now → is_on move.lanes lane ≡ true →
-        (move.from ≤ lane) × (lane + move.to - move.from < 64)) →
-        is_on result lane ≡ (is_on good lane
-        && not (list_any (λ move. is_on move.lanes lane && not (is_on alive (lane + move.to - move.from))) moves.now)) }
-    ensures within { (lane : ℕ) → is_on good lane ≡ false → is_on result lane ≡ false }
+    requires { AreSmall moves.now }
+    ensures { HasAliveMoves good moves.now alive result }
 {
     let mut words = [0];
     each_moves_alive(Simd::<u64, 1>::splat(alive), moves, good).copy_to_slice(&mut words);

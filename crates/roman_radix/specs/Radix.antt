@@ -1,10 +1,11 @@
 -- Sizes whose pairs have numbers of 32 bits, and how a pair's number depends on each of its states.
-use Rattle.std.specs.Prelude.{ℕ, ◌<◌, ◌≤◌, ◌+◌, ◌*◌, ◌^◌, List, [], ◌∷◌, length, drop, slice_index, slice_set}
+use Rattle.std.specs.Prelude.{ℕ, ◌≡◌, ◌<◌, ◌≤◌, ◌+◌, ◌*◌, ◌^◌, List, [], ◌∷◌, length, take, drop, slice_index, slice_set}
 use Rattle.roman_model.specs.Lists.{product_of}
 use Rattle.roman_model.specs.System.{Pair}
 use Rattle.roman_model.specs.Numbers.{Sizes, count, grown_sizes, number, pair_at}
 use Rattle.roman_model.specs.Change.{grown}
 use Rattle.roman_model.specs.declared.limits.TheConstants.{MAX_SERVICES}
+use Rattle.roman_radix.specs.Places.{padded}
 
 -- the sizes of a target, an environment and services with these numbers of states
 abbrev pub sizes_from : ℕ → ℕ → List ℕ → Sizes
@@ -22,6 +23,12 @@ pub record IsSizes (n : Sizes) : Type 0 where
   pub seats : AreSizes n.seats
   pub few : length n.seats ≤ MAX_SERVICES
   pub counted : count n < 2 ^ 32
+
+-- the table has the sizes of so many components in its first places, and zeros after them
+pub record IsSizeTable (components : ℕ) (table : List ℕ) : Type 0 where
+  pub few : components ≤ MAX_SERVICES
+  pub zeros : table ≡ padded (take components table)
+  pub positive : AreSizes (take components table)
 
 -- how much a pair's number grows if the state of component k grows by 1
 abbrev pub stride_of : Sizes → ℕ → ℕ

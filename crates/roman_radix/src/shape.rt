@@ -4,7 +4,7 @@ ghost use Rattle.std.specs.Prelude.{◌≡◌, ℕ, ◌+◌, ◌*◌, ◌/◌, �
 ghost use Rattle.roman_model.specs.Lists.{product_of};
 ghost use Rattle.roman_model.specs.Numbers.{IsPairOf, grown_sizes, sizes_without, count, number, pair_at};
 ghost use Rattle.roman_model.specs.Change.{without};
-ghost use Rattle.roman_radix.specs.Radix.{IsSizes, stride_of, env_stride_of, target_stride_of, with_part, AreSizes, sizes_from, grown_to, moved_to, IsPartState};
+ghost use Rattle.roman_radix.specs.Radix.{IsSizeTable, IsSizes, stride_of, env_stride_of, target_stride_of, with_part, AreSizes, sizes_from, grown_to, moved_to, IsPartState};
 ghost use Rattle.roman_radix.specs.Places.{padded, strides_of};
 ghost use Rattle.roman_radix.specs.Rows.{low_of, lanes_of, row_sizes};
 
@@ -372,9 +372,7 @@ fn is_within(target: u8, env: u8, sizes: &[u8], cap: u32) -> bool
 /// Returns the stride of each component, and the product of the sizes. The sizes are padded with
 /// zeros, and so are the strides.
 fn strides_over(components: u8, sizes: &[u8; PLACES]) -> ([u32; PLACES], u32)
-    requires few { components ≤ MAX_SERVICES }
-    requires padded { sizes.now ≡ padded (take components sizes.now) }
-    requires positive { AreSizes (take components sizes.now) }
+    requires table { IsSizeTable components sizes.now }
     requires fits { product_of (take components sizes.now) < 2 ^ 32 }
     ensures strides { result.0 ≡ padded (strides_of (take components sizes.now)) }
     ensures product { result.1 ≡ product_of (take components sizes.now) }

@@ -1,3 +1,4 @@
+pub mod Alive
 pub mod Bits
 pub mod Finding
 pub mod Numbered

@@ -11,6 +11,10 @@ use Rattle.roman_rules.specs.declared.probe.RowProbe.{RowProbe}
 pub record HoldsWhereKnown (A : Arena ℕ) (lanes : ℕ) (gone : ℕ → Bool) (probe : RowProbe) : Type 0 where
   pub each : (lane : ℕ) → lane < lanes → is_on probe.lanes lane ≡ true → IsTrue (is_justified A gone (probe.row * lanes + lane) probe.reason)
 
+-- with these pairs gone, exactly those lanes of row x are set at which the reason holds
+abbrev pub AreJustified : Arena ℕ → ℕ → (ℕ → Bool) → ℕ → Reason → ℕ → Type 0
+AreJustified A lanes gone x reason word = (lane : ℕ) → lane < lanes → is_on word lane ≡ is_justified A gone (x * lanes + lane) reason
+
 -- the action of the reason, if it names one, is one of the system
 abbrev pub IsReasonOf : Arena ℕ → Reason → Type 0
 IsReasonOf A Final = Unit {0}

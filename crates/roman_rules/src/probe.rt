@@ -1,9 +1,10 @@
 //! Reasons of a list's entries, probed row by row.
-ghost use Rattle.std.specs.Prelude.{◌≡◌, ℕ, ◌+◌, ◌*◌, ◌<◌, Bool, true, not, length, count_by, IsTrue};
+ghost use Rattle.std.specs.Prelude.{◌≡◌, ℕ, ◌+◌, ◌*◌, ◌<◌, Bool, true, length, count_by, IsTrue};
 ghost use Rattle.roman_model.specs.Lists.{below};
 ghost use Rattle.roman_model.specs.Arena.{Arena, is_justified};
-ghost use Rattle.roman_lanes.specs.Rows.{is_on, AreRows};
-ghost use Rattle.roman_rules.specs.Probes.{HoldsWhereKnown, IsReasonOf, readings_of, readings_of_reason};
+ghost use Rattle.roman_lanes.specs.Rows.{is_on};
+ghost use Rattle.roman_rules.specs.Alive.{AreAliveRows, HasAllRows};
+ghost use Rattle.roman_rules.specs.Probes.{AreJustified, HoldsWhereKnown, IsReasonOf, readings_of, readings_of_reason};
 
 use crate::rules::Rules;
 use roman_io::Steps;
@@ -49,11 +50,10 @@ fn probe_seats<J: Rules, L: Ledger>(
 ) -> u64
     requires row { (x : ℕ) × J.is_row joint.now x row.now }
     requires action { a < (J.arena joint.now).actions }
-    requires room { length words.now * J.lanes joint.now ≡ length (J.arena joint.now).nodes }
+    requires room { HasAllRows (J.arena joint.now) (J.lanes joint.now) words.now }
     ensures lost { let A = J.arena joint.now in let lanes = J.lanes joint.now in
-        (x : ℕ) (gone : ℕ → Bool) → J.is_row joint.now x row.now → AreRows lanes (λ q. not (gone q)) words.now →
-        (lane : ℕ) → lane < lanes →
-        is_on result lane ≡ is_justified A gone (x * lanes + lane) (Reason.Act a) }
+        (x : ℕ) (gone : ℕ → Bool) → J.is_row joint.now x row.now → AreAliveRows lanes gone words.now →
+        AreJustified A lanes gone x (Reason.Act a) result }
     ensures cost { let A = J.arena joint.now in let lanes = J.lanes joint.now in
         (x lane : ℕ) → J.is_row joint.now x row.now → lane < lanes →
         steps.new ≡ steps.old + readings_of A (x * lanes + lane) a }
@@ -109,18 +109,14 @@ impl RowProbe {
     ) -> u64
         requires row { x * J.lanes joint.now < length (J.arena joint.now).nodes }
         requires reason { IsReasonOf (J.arena joint.now) reason }
-        requires room { length words.now * J.lanes joint.now ≡ length (J.arena joint.now).nodes }
-        ensures holds { let A = J.arena joint.now in let lanes = J.lanes joint.now in
-            (gone : ℕ → Bool) → AreRows lanes (λ q. not (gone q)) words.now →
-            (lane : ℕ) → lane < lanes →
-            is_on result lane ≡ is_justified A gone (x * lanes + lane) reason }
-        ensures known { let A = J.arena joint.now in let lanes = J.lanes joint.now in
-            (gone : ℕ → Bool) → AreRows lanes (λ q. not (gone q)) words.now →
-            HoldsWhereKnown A lanes gone self.new }
+        requires room { HasAllRows (J.arena joint.now) (J.lanes joint.now) words.now }
+        ensures holds { (gone : ℕ → Bool) → AreAliveRows (J.lanes joint.now) gone words.now →
+            AreJustified (J.arena joint.now) (J.lanes joint.now) gone x reason result }
+        ensures known { (gone : ℕ → Bool) → AreAliveRows (J.lanes joint.now) gone words.now →
+            HoldsWhereKnown (J.arena joint.now) (J.lanes joint.now) gone self.new }
         ensures row { self.new.row ≡ x }
-        ensures cost { let A = J.arena joint.now in let lanes = J.lanes joint.now in
-            (lane : ℕ) → lane < lanes →
-            steps.new ≡ steps.old + readings_of_reason A (x * lanes + lane) reason }
+        ensures cost { (lane : ℕ) → lane < J.lanes joint.now →
+            steps.new ≡ steps.old + readings_of_reason (J.arena joint.now) (x * J.lanes joint.now + lane) reason }
     {
         let row = joint.row(x);
         let lanes = match reason {

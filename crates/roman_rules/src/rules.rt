@@ -5,8 +5,9 @@ ghost use Rattle.roman_model.specs.Lists.{IsIn, below};
 ghost use Rattle.roman_model.specs.System.{has};
 ghost use Rattle.roman_model.specs.Arena.{Arena, is_beaten, is_justified, mask as mask_of, back as predecessors};
 ghost use Rattle.roman_model.specs.Numbers.{Sizes};
-ghost use Rattle.roman_lanes.specs.Rows.{is_on, HasLanes, AreRows, Keeps};
+ghost use Rattle.roman_lanes.specs.Rows.{is_on, HasLanes, Keeps};
 ghost use Rattle.roman_lanes.specs.Flags.{has_flag};
+ghost use Rattle.roman_rules.specs.Alive.{AreAliveRows, HasAllRows};
 ghost use Rattle.roman_rules.specs.Bits.{HasBits};
 ghost use Rattle.roman_rules.specs.Numbered.{IsNumbered};
 ghost use Rattle.roman_rules.specs.Finding.{HasFinding};
@@ -147,9 +148,9 @@ pub trait Rules {
         requires row { (x : ℕ) × is_row self.now x row.now }
         requires action { a < (arena self.now).actions }
         requires lane { lane < lanes self.now }
-        requires room { length words.now * lanes self.now ≡ length (arena self.now).nodes }
+        requires room { HasAllRows (arena self.now) (lanes self.now) words.now }
         ensures { (x : ℕ) (gone : ℕ → Bool) → is_row self.now x row.now →
-            AreRows (lanes self.now) (λ q. not (gone q)) words.now →
+            AreAliveRows (lanes self.now) gone words.now →
             HasBits result (has (mask_of (arena self.now) gone (x * lanes self.now + lane) a)) };
 
     /// Returns the number of choices of a seat for the action `a` at all pairs of a band together: the
@@ -158,9 +159,9 @@ pub trait Rules {
     fn choices(&self, row: &Self::Row, words: &[u64], a: u8) -> u32
         requires row { (y : ℕ) × is_row self.now (y * band self.now) row.now }
         requires action { a < (arena self.now).actions }
-        requires room { length words.now * lanes self.now ≡ length (arena self.now).nodes }
+        requires room { HasAllRows (arena self.now) (lanes self.now) words.now }
         ensures counted { (y : ℕ) (gone : ℕ → Bool) → is_row self.now (y * band self.now) row.now →
-            AreRows (lanes self.now) (λ q. not (gone q)) words.now →
+            AreAliveRows (lanes self.now) gone words.now →
             result
             ≡ sum_by (λ i. sum_by (λ lane. length (mask_of (arena self.now) gone
             ((y * band self.now + i) * lanes self.now + lane) a))
@@ -174,9 +175,9 @@ pub trait Rules {
         requires row { (x : ℕ) × is_row self.now x row.now }
         requires action { a < (arena self.now).actions }
         requires seat { k < (arena self.now).seats }
-        requires room { length words.now * lanes self.now ≡ length (arena self.now).nodes }
+        requires room { HasAllRows (arena self.now) (lanes self.now) words.now }
         ensures { (x : ℕ) (gone : ℕ → Bool) → is_row self.now x row.now →
-            AreRows (lanes self.now) (λ q. not (gone q)) words.now →
+            AreAliveRows (lanes self.now) gone words.now →
             HasLanes (lanes self.now) x (λ p. not (is_beaten (arena self.now) gone p a k)) result };
 
     /// Clears, in `left`, the pairs of a band at which seat `k` serves the action `a`. `left` has one
@@ -185,11 +186,11 @@ pub trait Rules {
         requires row { (y : ℕ) × is_row self.now (y * band self.now) row.now }
         requires action { a < (arena self.now).actions }
         requires seat { k < (arena self.now).seats }
-        requires room { length words.now * lanes self.now ≡ length (arena self.now).nodes }
+        requires room { HasAllRows (arena self.now) (lanes self.now) words.now }
         requires long { length left.old ≡ band self.now }
         ensures long { length left.new ≡ length left.old }
         ensures left { (y : ℕ) (gone : ℕ → Bool) → is_row self.now (y * band self.now) row.now →
-            AreRows (lanes self.now) (λ q. not (gone q)) words.now →
+            AreAliveRows (lanes self.now) gone words.now →
             Keeps (lanes self.now) (y * band self.now) (band self.now)
             (λ p. is_beaten (arena self.now) gone p a k) left.old left.new };
 
@@ -198,9 +199,9 @@ pub trait Rules {
     fn unserved(&self, row: &Self::Row, words: &[u64], a: u8, wanted: u64) -> u64
         requires row { (x : ℕ) × is_row self.now x row.now }
         requires action { a < (arena self.now).actions }
-        requires room { length words.now * lanes self.now ≡ length (arena self.now).nodes }
+        requires room { HasAllRows (arena self.now) (lanes self.now) words.now }
         ensures lost { (x : ℕ) (gone : ℕ → Bool) → is_row self.now x row.now →
-            AreRows (lanes self.now) (λ q. not (gone q)) words.now →
+            AreAliveRows (lanes self.now) gone words.now →
             (lane : ℕ) → lane < lanes self.now →
             is_on result lane ≡ (is_on wanted lane
             && is_justified (arena self.now) gone (x * lanes self.now + lane) (Reason.Act a)) }
@@ -211,11 +212,11 @@ pub trait Rules {
     fn unserved_band(&self, row: &Self::Row, words: &[u64], a: u8, left: &mut [u64])
         requires row { (y : ℕ) × is_row self.now (y * band self.now) row.now }
         requires action { a < (arena self.now).actions }
-        requires room { length words.now * lanes self.now ≡ length (arena self.now).nodes }
+        requires room { HasAllRows (arena self.now) (lanes self.now) words.now }
         requires long { length left.old ≡ band self.now }
         ensures long { length left.new ≡ length left.old }
         ensures lost { (y : ℕ) (gone : ℕ → Bool) → is_row self.now (y * band self.now) row.now →
-            AreRows (lanes self.now) (λ q. not (gone q)) words.now →
+            AreAliveRows (lanes self.now) gone words.now →
             Keeps (lanes self.now) (y * band self.now) (band self.now)
             (λ p. is_justified (arena self.now) gone p (Reason.Act a)) left.old left.new };
 

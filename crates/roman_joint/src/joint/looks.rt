@@ -2,13 +2,13 @@
 ghost use Rattle.std.specs.Prelude.{◌≡◌, ℕ, ◌+◌, ◌*◌, ◌<◌, ◌≤◌, ◌∷◌, [], length, slice_index, IsTrue, IsFalse};
 ghost use Rattle.roman_model.specs.Lists.{IsIn, is_empty};
 ghost use Rattle.roman_model.specs.SystemArena.{beh_next};
-ghost use Rattle.roman_model.specs.Numbers.{sizes_of, count, number, pair_at};
+ghost use Rattle.roman_model.specs.Numbers.{sizes_of, count, pair_at};
 ghost use Rattle.roman_model.specs.declared.limits.TheConstants.{MAX_CELLS};
-ghost use Rattle.roman_radix.specs.Radix.{stride_of, env_stride_of, moved};
+ghost use Rattle.roman_radix.specs.Radix.{stride_of, env_stride_of, moved_to};
 ghost use Rattle.roman_joint.specs.NamedSys.{system_of};
 ghost use Rattle.roman_joint.specs.TargetViews.{AreTargetViews, IsTargetView};
 ghost use Rattle.roman_joint.specs.Outcomes.{outcome_number, outcome_numbers, IsPairWith};
-ghost use Rattle.roman_joint.specs.Pairs.{joint_pairs, joint_pair, joint_actions, arena_of};
+ghost use Rattle.roman_joint.specs.Pairs.{joint_pairs, joint_pair, joint_actions, arena_of, IsAllowed};
 
 use super::Joint;
 use crate::outcomes::Outcomes;
@@ -68,7 +68,7 @@ impl Joint {
     pub fn outcomes(&self, p: u32, a: u8, k: u8) -> Outcomes<'_>
         requires pair { p < joint_pairs self.now }
         requires seat { k < length self.now.seats }
-        requires allowed { IsTrue ((arena_of self.now).allows p a) }
+        requires allowed { IsAllowed self.now p a }
         requires ready { IsTrue ((arena_of self.now).ready k) }
         ensures numbers { (arena_of self.now).outcomes p a k ≡ outcome_numbers result }
         ensures places { (e b : ℕ) → IsIn e result.envs.now → IsIn b result.states.now
@@ -95,9 +95,9 @@ impl Joint {
     fn target_after(&self, p: u32, e: u8, a: u8) -> u8
         requires pair { p < joint_pairs self.now }
         requires env { e ≡ (joint_pair self.now p).e }
-        requires allowed { IsTrue ((arena_of self.now).allows p a) }
-        ensures next { beh_next (system_of self.now).target (joint_pair self.now p).t e a ≡ result ∷ [] }
-        ensures below { result < (system_of self.now).target.states }
+        requires allowed { IsAllowed self.now p a }
+        ensures next { beh_next self.now.target.beh (joint_pair self.now p).t e a ≡ result ∷ [] }
+        ensures below { result < self.now.target.beh.states }
         ensures action { a < joint_actions self.now }
     {
         self.known(); // the target is over the environment
@@ -115,7 +115,7 @@ pub(super) fn first_outcome(shape: &Shape, p: u32, to: u8, k: u8, b: u8) -> u32
     requires component { k < length shape.now.seats }
     requires state { b ≡ slice_index (pair_at shape.now p).bs k }
     ensures { (e b : ℕ) → result + e * env_stride_of shape.now + b * stride_of shape.now k
-        ≡ number shape.now (moved (pair_at shape.now p) to e k b) }
+        ≡ moved_to shape.now p to e k b }
 {
     shape.known(); // a pair's number fits in 32 bits
     let row = u32::from(to) * shape.target_stride() + p % shape.env_stride();

@@ -1,10 +1,10 @@
 //! Walks backwards from a pair.
-ghost use Rattle.std.specs.Prelude.{◌≡◌, ◌+◌, ◌<◌, ◌≤◌, ◌∷◌, [], All, length, MatchBool, MatchOption};
+ghost use Rattle.std.specs.Prelude.{◌≡◌, ◌+◌, ◌<◌, ◌≤◌, All, length, MatchOption};
 ghost use Rattle.roman_model.specs.Lists.{HoldsEachOnce};
 ghost use Rattle.roman_model.specs.SystemArena.{env_prev, beh_prev};
 ghost use Rattle.roman_model.specs.Arena.{back};
 ghost use Rattle.roman_joint.specs.NamedSys.{system_of};
-ghost use Rattle.roman_joint.specs.Walks.{goal_of, IsWalk, WalkGoesOn, left, left_of_seat, left_of_target, left_of_env, left_of_action, left_of_all};
+ghost use Rattle.roman_joint.specs.Walks.{goal_of, IsWalk, IsDone, TakesFirst, GoesOnUnlessDone, left, left_of_seat, left_of_target, left_of_env, left_of_action, left_of_all};
 ghost use Rattle.roman_joint.specs.Pairs.{joint_pairs, arena_of};
 
 use super::Joint;
@@ -42,9 +42,8 @@ impl Joint {
     pub fn back<L: Ledger>(&self, walk: &mut Walk, steps: &mut Steps<L>) -> Option<(u32, u8, u8)>
         requires { IsWalk (system_of self.now) walk.old }
         ensures walk { IsWalk (system_of self.now) walk.new }
-        ensures given { MatchOption result (left (system_of self.now) walk.old ≡ [])
-            (λ d. left (system_of self.now) walk.old
-            ≡ record { node = d.0; action = d.1; seat = d.2 } ∷ left (system_of self.now) walk.new) }
+        ensures given { MatchOption result (IsDone left self.now walk.old)
+            (λ d. TakesFirst self.now walk.old walk.new d.0 d.1 d.2) }
         ensures step { MatchOption result (steps.new ≡ steps.old) (λ d. steps.new ≡ steps.old + 1) }
     {
         'on: loop {
@@ -64,9 +63,8 @@ impl Joint {
         requires { IsWalk (system_of self.now) walk.old }
         ensures walk { IsWalk (system_of self.now) walk.new }
         ensures action { walk.new.action ≡ walk.old.action }
-        ensures taken { MatchOption result ((walk.new ≡ walk.old) × (left_of_seat (system_of self.now) walk.old ≡ []))
-            (λ x. left (system_of self.now) walk.old
-            ≡ record { node = x.0; action = walk.old.action; seat = x.1 } ∷ left (system_of self.now) walk.new) }
+        ensures taken { MatchOption result ((walk.new ≡ walk.old) × IsDone left_of_seat self.now walk.old)
+            (λ x. TakesFirst self.now walk.old walk.new x.0 walk.old.action x.1) }
     {
         self.known(); // the system is well formed, a pair's number fits in 32 bits
         let place = walk.seat;
@@ -91,9 +89,8 @@ impl Joint {
     // returns whether there is one. Requires that no state of the current service is left.
     fn go_on(&self, walk: &mut Walk) -> bool
         requires walk { IsWalk (system_of self.now) walk.old }
-        requires seat { left_of_seat (system_of self.now) walk.old ≡ [] }
-        ensures { MatchBool result (WalkGoesOn (system_of self.now) walk.old walk.new)
-            ((walk.new ≡ walk.old) × (left (system_of self.now) walk.old ≡ [])) }
+        requires seat { IsDone left_of_seat self.now walk.old }
+        ensures { GoesOnUnlessDone left self.now result walk.old walk.new }
     {
         self.next_seat(walk)
             || self.next_target(walk)
@@ -104,9 +101,8 @@ impl Joint {
     // Moves on to the next service, and returns whether there is one.
     fn next_seat(&self, walk: &mut Walk) -> bool
         requires walk { IsWalk (system_of self.now) walk.old }
-        requires seat { left_of_seat (system_of self.now) walk.old ≡ [] }
-        ensures { MatchBool result (WalkGoesOn (system_of self.now) walk.old walk.new)
-            ((walk.new ≡ walk.old) × (left_of_target (system_of self.now) walk.old ≡ [])) }
+        requires seat { IsDone left_of_seat self.now walk.old }
+        ensures { GoesOnUnlessDone left_of_target self.now result walk.old walk.new }
     {
         self.known(); // the system is well formed
         if walk.seat + 1 >= self.seats() {
@@ -121,10 +117,9 @@ impl Joint {
     // is one.
     fn next_target(&self, walk: &mut Walk) -> bool
         requires walk { IsWalk (system_of self.now) walk.old }
-        requires seat { left_of_seat (system_of self.now) walk.old ≡ [] }
-        requires target { left_of_target (system_of self.now) walk.old ≡ [] }
-        ensures { MatchBool result (WalkGoesOn (system_of self.now) walk.old walk.new)
-            ((walk.new ≡ walk.old) × (left_of_env (system_of self.now) walk.old ≡ [])) }
+        requires seat { IsDone left_of_seat self.now walk.old }
+        requires target { IsDone left_of_target self.now walk.old }
+        ensures { GoesOnUnlessDone left_of_env self.now result walk.old walk.new }
     {
         self.known(); // the system is well formed, a pair's number fits in 32 bits
         let targets = self.targets_before(walk);
@@ -157,11 +152,10 @@ impl Joint {
     #[tactic(auto, using(crate::proofs::WalkLemmas::passed, crate::proofs::WalkLemmas::few_prev))]
     fn next_env(&self, walk: &mut Walk) -> bool
         requires walk { IsWalk (system_of self.now) walk.old }
-        requires seat { left_of_seat (system_of self.now) walk.old ≡ [] }
-        requires target { left_of_target (system_of self.now) walk.old ≡ [] }
-        requires env { left_of_env (system_of self.now) walk.old ≡ [] }
-        ensures { MatchBool result (WalkGoesOn (system_of self.now) walk.old walk.new)
-            ((walk.new ≡ walk.old) × (left_of_action (system_of self.now) walk.old ≡ [])) }
+        requires seat { IsDone left_of_seat self.now walk.old }
+        requires target { IsDone left_of_target self.now walk.old }
+        requires env { IsDone left_of_env self.now walk.old }
+        ensures { GoesOnUnlessDone left_of_action self.now result walk.old walk.new }
     {
         self.known(); // the system is well formed, a pair's number fits in 32 bits
         let envs = self.envs_before(walk);
@@ -195,12 +189,11 @@ impl Joint {
     #[tactic(auto, using(crate::proofs::WalkLemmas::passed))]
     fn next_action(&self, walk: &mut Walk) -> bool
         requires walk { IsWalk (system_of self.now) walk.old }
-        requires seat { left_of_seat (system_of self.now) walk.old ≡ [] }
-        requires target { left_of_target (system_of self.now) walk.old ≡ [] }
-        requires env { left_of_env (system_of self.now) walk.old ≡ [] }
-        requires action { left_of_action (system_of self.now) walk.old ≡ [] }
-        ensures { MatchBool result (WalkGoesOn (system_of self.now) walk.old walk.new)
-            ((walk.new ≡ walk.old) × (left_of_all (system_of self.now) walk.old ≡ [])) }
+        requires seat { IsDone left_of_seat self.now walk.old }
+        requires target { IsDone left_of_target self.now walk.old }
+        requires env { IsDone left_of_env self.now walk.old }
+        requires action { IsDone left_of_action self.now walk.old }
+        ensures { GoesOnUnlessDone left_of_all self.now result walk.old walk.new }
     {
         self.known(); // the system is well formed
         if u32::from(walk.action) + 1 >= self.environment().actions().len() {

@@ -16,7 +16,7 @@ returns c = record {
         each = λ lane l.
             let beaten = moves_beaten s x _ c.args.k c.args.alive _ _ gone (known n x _ c.known.ensures ok) c.requires.attempt.1.to c.requires.within seat living _ _ are lane l in
             let few = moves_few _ _ _ lane _ _ are l in
-            grind (arith, (c.moves_alive.ensures.alive lane few.0 few.1));
-        rest = λ lane l. c.moves_alive.ensures.within lane (are.rest lane l);
+            grind (arith, (c.moves_alive.ensures.each lane few.0 few.1));
+        rest = λ lane l. c.moves_alive.ensures.none lane (are.rest lane l);
       };
 }

@@ -8,7 +8,7 @@ loop-k-init c = record { within = omega arith; product = product_none c.args.com
 
 -- the product of some of the sizes doesn't overflow
 pub overflow_mul-stride : goal.overflow_mul-stride
-overflow_mul-stride c = grind (arith, get_or-take, length_first, product_more, (product_drop-le _ 0 (c.loop-k.k - 1) c.requires.positive))
+overflow_mul-stride c = grind (arith, get_or-take, length_first, product_more, (product_drop-le _ 0 (c.loop-k.k - 1) c.requires.table.positive))
 
 pub loop-k-preserved : goal.loop-k-preserved
 loop-k-preserved c = grind (arith, cases_eq, get_or-set_other, get_or-set_same, get_or-take, length-set, length_first, product_more)

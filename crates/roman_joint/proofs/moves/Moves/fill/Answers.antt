@@ -6,6 +6,5 @@ fill_column-requires-clause-column c = rw (c.requires.suits.envs, c.requires.sui
 
 pub returns : goal.returns
 returns c =
-    let i = c.loop-column.invariant in
     let end : c.loop-column.column ≡ c.args.parts.now.environment.now.env.states * c.args.parts.now.environment.now.env.actions = omega (arith, c.loop-column-test.false, ap₂ (λ m n. m * n) c.requires.suits.envs c.requires.suits.actions) in
-    record { suits = i.suits; columns = rw end at i.columns }
+    rw end at c.loop-column.invariant

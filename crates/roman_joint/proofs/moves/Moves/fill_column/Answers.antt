@@ -6,7 +6,7 @@ pub add-requires-clause-shifts : goal.add-requires-clause-shifts
 add-requires-clause-shifts c =
     let parts = c.args.parts.now in
     let of = c.requires.seats in
-    let at = column_at parts.environment.now.env c.args.self.now c.args.column c.requires.suits c.requires.column of.known.system.env.actions.0 in
+    let at = column_at parts.environment.now.env c.args.self.now c.args.column c.requires.filled.suits c.requires.column of.known.system.env.actions.0 in
     let read = seat_here parts c.args.shape.now c.loop-k.k c.index-seats-k.result c.index-catalogue-seat.result of (omega arith) c.index-seats-k.is c.index-catalogue-seat.is in
     let beh = of.known.system.seats _ (get_in (system_in parts).seats c.loop-k.k _ read.seated) in
     record {
@@ -39,7 +39,7 @@ loop-k-preserved c =
     let parts = c.args.parts.now in
     let s = system_in parts in
     let of = c.requires.seats in
-    let at = column_at parts.environment.now.env c.args.self.now c.args.column c.requires.suits c.requires.column of.known.system.env.actions.0 in
+    let at = column_at parts.environment.now.env c.args.self.now c.args.column c.requires.filled.suits c.requires.column of.known.system.env.actions.0 in
     let read = seat_here parts c.args.shape.now c.loop-k.k c.index-seats-k.result c.index-catalogue-seat.result of (omega arith) c.index-seats-k.is c.index-catalogue-seat.is in
     let i = c.loop-k.invariant in
     let added = c.add.ensures.added in
@@ -49,11 +49,11 @@ loop-k-preserved c =
       long = omega (arith, i.from, i.long, ap length added.spans, length-append c.loop-k.self.spans.items (added.span ∷ []));
       few = omega (arith, more, added.few, i.few, ap length added.moves, length-append c.loop-k.self.moves.items added.more);
       spans = spans_more s c.loop-k.k _ _ _ _ c.loop-k.self c.add.new.self read.seated read.beh i.from at.action (i.long ∙ ap (λ m. m * within_in s + (c.loop-k.k - low_in s)) at.whole) i.spans (rw of.sizes_are at added);
-      suits = suits_kept _ _ _ added.kept i.suits;
+      suits = suits_kept parts.environment.now.env _ _ added.kept i.suits;
     }
 
-pub returns-clause-columns : goal.returns-clause-columns
-returns-clause-columns c =
+pub returns : goal.returns
+returns c =
     let parts = c.args.parts.now in
     let s = system_in parts in
     let i = c.loop-k.invariant in
@@ -61,7 +61,10 @@ returns-clause-columns c =
     let long = sizes_long parts c.args.shape.now c.requires.seats in
     let all : c.loop-k.k - low_in s ≡ within_in s = omega (arith, c.loop-k-test.false, low_of-le c.args.shape.now.seats, length-map parts.seats.now (seat_of parts.catalogue.now)) in
     record {
-      long = i.long ∙ (ap (λ m. c.args.column * within_in s + m) all ∙ omega arith);
-      few = omega (arith, i.few, lanes_room c.args.shape.now c.requires.rows.ok);
-      spans_at = i.spans;
+      suits = i.suits;
+      columns = record {
+        long = i.long ∙ (ap (λ m. c.args.column * within_in s + m) all ∙ omega arith);
+        few = omega (arith, i.few, lanes_room c.args.shape.now c.requires.rows.ok);
+        spans_at = i.spans;
+      };
     }
