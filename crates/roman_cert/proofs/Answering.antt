@@ -82,14 +82,11 @@ find_alike p q (x ∷ xs) same = ap₂ (λ b o. cond b (Some x) o) (same x) (fin
 -- the first outcome that is listed before the entry's place is the defeating answer
 pub answer_found : (A : Arena ℕ) → IsNumbered A → (n : Sizes) (L : List (Entry ℕ)) (i p a k : ℕ) (finding : Finding) → IsOrder A L → slice_get L i ≡ Some (record { node = p; reason = Act a }) →
     HasFinding n k (has_entry (take i L)) (A.outcomes p a k) finding → pair_of finding ≡ answer A L p a k
-answer_found A ok n L i p a k finding order e found = named finding found.is ∙ sym is
+answer_found A ok n L i p a k finding order e found =
+    let same : (q : ℕ) → is_listed A (entries_before A L p) q ≡ has_entry (take i L) q = λ q. ap (λ M. is_listed A M q) (entries_at A (numbered_same A ok) L i (record { node = p; reason = Act a }) order e) ∙ listed_is A ok (take i L) q in
+    let is : answer A L p a k ≡ find (has_entry (take i L)) (A.outcomes p a k) = find_alike (is_listed A (entries_before A L p)) (has_entry (take i L)) (A.outcomes p a k) same in
+    named finding found.is ∙ sym is
   where
-    same : (q : ℕ) → is_listed A (entries_before A L p) q ≡ has_entry (take i L) q
-    same q = ap (λ M. is_listed A M q) (entries_at A (numbered_same A ok) L i (record { node = p; reason = Act a }) order e) ∙ listed_is A ok (take i L) q
-
-    is : answer A L p a k ≡ find (has_entry (take i L)) (A.outcomes p a k)
-    is = find_alike (is_listed A (entries_before A L p)) (has_entry (take i L)) (A.outcomes p a k) same
-
     named : (f : Finding) → IsFinding n k (has_entry (take i L)) (A.outcomes p a k) f → pair_of f ≡ find (has_entry (take i L)) (A.outcomes p a k)
     named Good h = sym h.1
     named NoOutcome h = ap (find (has_entry (take i L))) (sym h)

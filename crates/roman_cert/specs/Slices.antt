@@ -52,9 +52,11 @@ IsEntryOf n p reason = (p < joint_pairs n) × IsReasonOf (arena_of n) reason
 abbrev pub IsOrderOf : Arena ℕ → Board → Type 0
 IsOrderOf A board = (pairs_of board ≡ length A.nodes) × IsOrder A board.list
 
--- only the marks have changed
-abbrev pub ChangesMarks : Board → Board → Type 0
-ChangesMarks old new = new ≡ record old { marks = new.marks }
+-- exactly the pairs that were marked before, and those of the answers to the entry at place i if that entry was marked, are marked
+abbrev pub MarksFrom : Arena ℕ → ℕ → Board → Board → Type 0
+MarksFrom A i old new =
+    (x : Entry ℕ) → slice_get old.list i ≡ Some x → (q : ℕ) →
+    is_marked new q ≡ (is_marked old q || (is_marked old x.node && is_among A (answers A old.list x.node x.reason) q))
 
 -- exactly the pairs of the entries on which the list's entry of p depends are marked
 abbrev pub MarksSlice : Arena ℕ → List (Entry ℕ) → ℕ → Board → Type 0

@@ -1,9 +1,8 @@
 //! Marks the pairs of the entries on which an entry depends.
-ghost use Rattle.std.specs.Prelude.{◌≡◌, ℕ, ◌<◌, ◌&&◌, ◌||◌, length, slice_get, Some};
-ghost use Rattle.roman_model.specs.Arena.{Entry, is_among};
+ghost use Rattle.std.specs.Prelude.{◌<◌, length, Some};
 ghost use Rattle.roman_model.specs.Explanation.{answers};
-ghost use Rattle.roman_order.specs.Board.{is_marked};
-ghost use Rattle.roman_cert.specs.Slices.{ChangesMarks, HasAct, IsOrderOf, MarksAnswers, MarksSlice};
+ghost use Rattle.roman_order.specs.Board.{ChangesOnlyMarks};
+ghost use Rattle.roman_cert.specs.Slices.{HasAct, IsOrderOf, MarksAnswers, MarksFrom, MarksSlice};
 
 use crate::answers::answer;
 use roman_io::Steps;
@@ -23,7 +22,7 @@ pub(crate) fn mark_slice<J: Rules, L: Ledger>(
     requires order { IsOrderOf (J.arena joint.now) order.old }
     requires pair { p < length (J.arena joint.now).nodes }
     ensures marked { MarksSlice (J.arena joint.now) order.old.list p order.new }
-    ensures rest { ChangesMarks order.old order.new }
+    ensures rest { ChangesOnlyMarks order.old order.new }
 {
     joint.known(); // no two pairs have the same number
     order.clear_marks();
@@ -38,11 +37,8 @@ pub(crate) fn mark_slice<J: Rules, L: Ledger>(
 fn visit<J: Rules, L: Ledger>(joint: &J, order: &mut Order, i: u32, steps: &mut Steps<L>)
     requires order { IsOrderOf (J.arena joint.now) order.old }
     requires place { i < length order.old.list }
-    ensures marked { let A = J.arena joint.now in
-        (x : Entry ℕ) → slice_get order.old.list i ≡ Some x → (q : ℕ) → is_marked order.new q
-        ≡ (is_marked order.old q || (is_marked order.old x.node
-        && is_among A (answers A order.old.list x.node x.reason) q)) }
-    ensures rest { ChangesMarks order.old order.new }
+    ensures marked { MarksFrom (J.arena joint.now) i order.old order.new }
+    ensures rest { ChangesOnlyMarks order.old order.new }
 {
     joint.known(); // no two pairs have the same number
     order.known(); // listed pairs are pairs of the system
@@ -69,7 +65,7 @@ fn mark_answers<J: Rules, L: Ledger>(
     requires order { IsOrderOf (J.arena joint.now) order.old }
     requires entry { HasAct order.old.list i p a }
     ensures marked { MarksAnswers (J.arena joint.now) order.old order.new p (Reason.Act a) }
-    ensures rest { ChangesMarks order.old order.new }
+    ensures rest { ChangesOnlyMarks order.old order.new }
 {
     joint.known(); // no two pairs have the same number
     for k in 0..joint.seats() {

@@ -1,12 +1,12 @@
 -- Moves of a system by one served request.
-use Rattle.std.specs.Prelude.{◌≡◌, ℕ, ◌<◌, List, IsTrue, slice_index, slice_set}
+use Rattle.std.specs.Prelude.{◌≡◌, ℕ, ◌<◌, List, Option, IsTrue, IfSome, IfNone, slice_index, slice_set}
 use Rattle.roman_model.specs.System.{Sys, Pair, IsPair, TStep, SStep, has}
-use Rattle.roman_model.specs.SystemArena.{is_allowed, is_ready}
+use Rattle.roman_model.specs.SystemArena.{is_allowed}
 use Rattle.roman_model.specs.Offers.{is_related, offers}
 use Rattle.roman_model.specs.Numbers.{sizes_of, count, pair_at}
 use Rattle.roman_rules.specs.Bits.{HasBits}
 use Rattle.roman_joint.specs.NamedSys.{NamedSys, system_of}
-use Rattle.roman_joint.specs.Pairs.{joint_pair, joint_seat}
+use Rattle.roman_joint.specs.Pairs.{joint_pair}
 use Rattle.roman_generator.specs.declared.observation.Observation.{Observation}
 
 -- a system step by action a, delegated to seat k, leads from p to the seat's state b and the environment's e
@@ -28,10 +28,6 @@ IsRelatedAt joint p = IsTrue (is_related (system_of joint) (joint_pair joint p))
 -- the bits are those of the seats that can be offered for action a at the pair with number p
 abbrev pub AreOffers : NamedSys → ℕ → ℕ → ℕ → Type 0
 AreOffers joint p a bits = HasBits bits (has (offers (system_of joint) (joint_pair joint p) a))
-
--- seat k is ready
-abbrev pub IsReadySeat : NamedSys → ℕ → Type 0
-IsReadySeat joint k = IsTrue (is_ready (joint_seat joint k))
 
 -- a system step by action a, delegated to seat k, to the seat's state b and the environment's e, with a target step, leads from p to the pair with number q
 pub record Becomes (s : Sys) (p : Pair) (a k b e q : ℕ) : Type 0 where
@@ -64,3 +60,8 @@ pub record IsBefore (s : Sys) (t e b : ℕ) (x : Observation) (p : Pair) : Type 
   pub env : p.e ≡ e
   pub state : slice_index p.bs x.seat ≡ b
   pub allowed : IsTrue (is_allowed s p x.action)
+
+-- the target's state after the observation, from each pair with these states; none if no step of the system leads to the observed states
+pub record FindsTarget (s : Sys) (t e b : ℕ) (x : Observation) (found : Option ℕ) : Type 0 where
+  pub moves : (p : Pair) → IsBefore s t e b x p → IfSome found (GoesTo s p x)
+  pub none : (p : Pair) → IsBefore s t e b x p → IfNone found (MayBeObserved s p x → ⊥)

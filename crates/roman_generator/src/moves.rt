@@ -3,7 +3,8 @@ ghost use Rattle.std.specs.Prelude.{◌≡◌, ◌<◌, IsTrue, IfSome, IfNone};
 ghost use Rattle.roman_model.specs.System.{Pair, IsPair, has};
 ghost use Rattle.roman_model.specs.SystemArena.{is_allowed};
 ghost use Rattle.roman_joint.specs.NamedSys.{system_of};
-ghost use Rattle.roman_generator.specs.Moves.{IsAllowedAt, CanMoveAt, GoesTo, IsReadySeat, MayBeObserved, MovesAt, IsBefore, pair_with};
+ghost use Rattle.roman_relation.specs.Seats.{IsReadyAt};
+ghost use Rattle.roman_generator.specs.Moves.{IsAllowedAt, CanMoveAt, GoesTo, MayBeObserved, MovesAt, FindsTarget, IsBefore, pair_with};
 ghost use Rattle.roman_joint.specs.Pairs.{joint_pairs};
 
 use crate::observation::Observation;
@@ -16,7 +17,7 @@ use roman_joint::Joint;
 pub fn next_pair(joint: &Joint, p: u32, a: u8, k: u8, b2: u8, e2: u8) -> Option<u32>
     requires pair { p < joint_pairs joint.now }
     requires allowed { IsAllowedAt joint.now p a }
-    requires ready { IsReadySeat joint.now k }
+    requires ready { IsReadyAt joint.now k }
     ensures moves { IfSome result (MovesAt joint.now p a k b2 e2) }
     ensures none { IfNone result (¬ CanMoveAt joint.now p a k b2 e2) }
 {
@@ -49,7 +50,7 @@ pub fn next_target(
 ) -> Option<u8>
     requires pair { IsPair (system_of joint.now) (pair_with t e states.now) }
     requires allowed { IsTrue (is_allowed (system_of joint.now) (pair_with t e states.now) observation.action) }
-    requires ready { IsReadySeat joint.now observation.seat }
+    requires ready { IsReadyAt joint.now observation.seat }
     ensures moves { IfSome result (GoesTo (system_of joint.now) (pair_with t e states.now) observation) }
     ensures none { IfNone result (¬ MayBeObserved (system_of joint.now) (pair_with t e states.now) observation) }
 {
@@ -60,11 +61,8 @@ pub fn next_target(
 // state `t`, the environment in state `e`, and the service in state `b`.
 fn target_after(joint: &Joint, t: u8, e: u8, b: u8, observation: Observation) -> Option<u8>
     requires before { (p : Pair) × IsBefore (system_of joint.now) t e b observation p }
-    requires ready { IsReadySeat joint.now observation.seat }
-    ensures moves { (p : Pair) → IsBefore (system_of joint.now) t e b observation p →
-        IfSome result (GoesTo (system_of joint.now) p observation) }
-    ensures none { (p : Pair) → IsBefore (system_of joint.now) t e b observation p →
-        IfNone result (¬ MayBeObserved (system_of joint.now) p observation) }
+    requires ready { IsReadyAt joint.now observation.seat }
+    ensures { FindsTarget (system_of joint.now) t e b observation result }
 {
     joint.known(); // behaviours and the target are over the environment
     if !holds(

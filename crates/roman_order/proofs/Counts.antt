@@ -1,5 +1,5 @@
 -- The number of pairs that aren't listed.
-use Rattle.roman_order.proofs.Common.{◌≡◌, ℕ, zero, suc, ◌+◌, ◌<◌, true, not, ◌&&◌, eqb, List, length, refl, sym, ◌∙◌, ap, arith, list_any, IsDistinct, cases_Bool, eq-eqb, ne_eqb, none_from, any_from, in_below, from_below, length-below, length-map, length-filter, IsDistinct-push, Entry, below, nodes_of, has_entry, count_by, nat_eq_equiv, length-IsIntersection, length-filter_both}
+use Rattle.roman_order.proofs.Common.{◌≡◌, ℕ, zero, suc, ◌+◌, ◌<◌, true, not, ◌&&◌, eqb, List, length, refl, sym, ap, arith, list_any, IsDistinct, cases_Bool, eq-eqb, ne_eqb, none_from, any_from, in_below, from_below, length-below, length-map, length-filter, IsDistinct-push, Entry, below, nodes_of, has_entry, count_by, nat_eq_equiv, length-IsIntersection, length-filter_both}
 use Rattle.roman_order.proofs.Places.{has_entry-nodes}
 
 below_apart : (n : ℕ) → IsDistinct eqb (below n)

@@ -166,30 +166,23 @@ not_or false b = refl
 pub AreRows-pushed : (lanes x lost : ℕ) (L : List (Entry ℕ)) (reason : Reason) (words : List ℕ) → lanes ≤ 64 → x < length words → lost < 2 ^ 64 → ((lane : ℕ) → is_on lost lane ≡ true → lane < lanes) →
     AreRows lanes (λ p. not (has_entry L p)) words →
     AreRows lanes (λ p. not (has_entry (L ++ entries_in lanes x lost reason) p)) (set words x (bit_and (get_or words x 0) (bit_not w64 lost)))
-AreRows-pushed lanes x lost L reason words few room fits within rows = record {
-  each = grind (arith, cases_eq, get_or-set_same, get_or-set_other, length-set, word, own, other);
-}
-  where
-    after : List (Entry ℕ)
-    after = L ++ entries_in lanes x lost reason
-
-    word : ℕ
-    word = bit_and (get_or words x 0) (bit_not w64 lost)
-
-    own : HasLanes lanes x (λ p. not (has_entry after p)) word
-    own = record {
+AreRows-pushed lanes x lost L reason words few room fits within rows =
+    let after : List (Entry ℕ) = L ++ entries_in lanes x lost reason in
+    let word : ℕ = bit_and (get_or words x 0) (bit_not w64 lost) in
+    let own : HasLanes lanes x (λ p. not (has_entry after p)) word = record {
       each = λ lane l.
           let low : lane < 64 = omega arith in
           on_less (get_or words x 0) lost lane fits low ∙ (ap (λ b. b && not (is_on lost lane)) ((rows.each x room).each lane l)
           ∙ (sym (not_or (has_entry L (x * lanes + lane)) (is_on lost lane)) ∙ ap not (sym (has_entry-lane L (x * lanes) lost lane reason low))));
       rest = λ lane l. on_and (get_or words x 0) (bit_not w64 lost) lane ∙ ap (λ b. b && is_on (bit_not w64 lost) lane) ((rows.each x room).rest lane l);
-    }
-
-    other : (y : ℕ) → y ≢ x → HasLanes lanes y (λ p. not (has_entry L p)) (get_or words y 0) → HasLanes lanes y (λ p. not (has_entry after p)) (get_or words y 0)
-    other y ne was = record {
+    } in
+    let other : (y : ℕ) → y ≢ x → HasLanes lanes y (λ p. not (has_entry L p)) (get_or words y 0) → HasLanes lanes y (λ p. not (has_entry after p)) (get_or words y 0) = λ y ne was. record {
       each = λ lane l. was.each lane l
           ∙ ap not (sym (has_entry-elsewhere L (x * lanes) lost (y * lanes + lane) reason (λ j low t e. ne (same_from_place y lane x j lanes l (within j t) e).0)));
       rest = was.rest;
+    } in
+    record {
+      each = grind (arith, cases_eq, get_or-set_same, get_or-set_other, length-set, word, own, other);
     }
 
 -- for an empty list all words are full

@@ -1,5 +1,5 @@
 -- Lists with one more entry.
-use Rattle.roman_order.proofs.Common.{◌≡◌, ◌≢◌, ℕ, ◌+◌, ◌-◌, ◌^◌, ◌<◌, ◌≤◌, Bool, false, List, [], ◌∷◌, ◌++◌, length, Some, None, refl, ap, ◌∙◌, inl, inr, arith, eqb, ◌||◌, is_some, list_any, position_from, IsDistinct, or-false, cases_eq, ne_eqb, cases_Bool, false≢true, map_push, list_any-append, Entry, list_any-map, nodes_of, has_entry, place_in_list, IsPlaced, stamp_of, nat_eq_equiv, IsDistinct-push}
+use Rattle.roman_order.proofs.Common.{◌≡◌, ◌≢◌, ℕ, ◌+◌, ◌-◌, ◌^◌, ◌<◌, Bool, false, List, [], ◌∷◌, ◌++◌, length, Some, None, refl, ap, ◌∙◌, inl, inr, arith, eqb, ◌||◌, is_some, list_any, position_from, IsDistinct, or-false, cases_eq, ne_eqb, cases_Bool, false≢true, map_push, list_any-append, Entry, list_any-map, nodes_of, has_entry, place_in_list, IsPlaced, stamp_of, nat_eq_equiv, IsDistinct-push}
 
 -- ---- places
 

@@ -1,11 +1,11 @@
 -- Orders as callers see them: the removal list, the waiting entries, and the tables beside them.
-use Rattle.std.specs.Prelude.{◌≡◌, true, false, not, ℕ, ◌+◌, ◌*◌, ◌/◌, ◌%◌, ◌<◌, ◌==◌, Bool, List, [], ◌++◌, Option, map, flat_map, slice_index}
+use Rattle.std.specs.Prelude.{◌≡◌, true, false, not, ℕ, ◌+◌, ◌*◌, ◌/◌, ◌%◌, ◌<◌, ◌==◌, Bool, List, [], ◌∷◌, ◌++◌, Option, map, flat_map, length, slice_index}
 use Rattle.std.specs.List.{list_any, position_from, filter}
 use Rattle.roman_model.specs.Lists.{below}
 use Rattle.roman_model.specs.Arena.{Entry}
 use Rattle.roman_model.specs.declared.reason.Reason.{Reason}
 use Rattle.roman_lanes.specs.Rows.{is_on, HasLanes, AreRows}
-use Rattle.roman_lanes.specs.Flags.{has_flag}
+use Rattle.roman_lanes.specs.Flags.{has_flag, SameFlagsBut}
 
 -- an order: its room and its shape, the removal list, the waiting entries, and the tables beside them
 pub record Board : Type 0 where
@@ -33,6 +33,10 @@ pairs_of board = board.rows * board.lanes
 -- the number is marked
 abbrev pub is_marked : Board → ℕ → Bool
 is_marked board p = has_flag board.marks p
+
+-- no number below `end` is marked
+abbrev pub NoneMarkedBelow : Board → ℕ → Type 0
+NoneMarkedBelow board end = (p : ℕ) → p < end → is_marked board p ≡ false
 
 -- the pair has a bit in the kept words
 abbrev pub is_kept : Board → ℕ → Bool
@@ -65,6 +69,14 @@ ChangesOnlyMarks old new = new ≡ record old { marks = new.marks }
 -- the new order differs from the old one at most in its kept words
 abbrev pub ChangesOnlyBefore : Board → Board → Type 0
 ChangesOnlyBefore old new = new ≡ record old { before = new.before }
+
+-- the new order differs from the old one at most in its levels
+abbrev pub ChangesOnlyLevels : Board → Board → Type 0
+ChangesOnlyLevels old new = new ≡ record old { levels = new.levels }
+
+-- the new order's last level ends at the end of the old order's list, and its other levels are those of the old order
+abbrev pub EndsLevel : Board → Board → Type 0
+EndsLevel old new = new.levels ≡ old.levels ++ length old.list ∷ []
 
 -- no entry waits, and the order is unchanged
 abbrev pub StaysIdle : Board → Board → Type 0
@@ -105,3 +117,13 @@ with_row board x word reason = record board { list = board.list ++ entries_in bo
 -- the entries of the pairs of `rows` rows from row x on, with one word for each row, for one reason
 abbrev pub entries_in_rows : ℕ → ℕ → ℕ → List ℕ → Reason → List (Entry ℕ)
 entries_in_rows lanes x rows words reason = flat_map (λ i. entries_in lanes (x + i) (slice_index words i) reason) (below rows)
+
+-- the order with the entries of neighbouring rows from row x on, with one word for each row, added at the end of its list
+abbrev pub with_rows : Board → ℕ → List ℕ → Reason → Board
+with_rows board x words reason = record board { list = board.list ++ entries_in_rows board.lanes x (length words) words reason }
+
+-- the second order has one mark less than the first: that of p
+pub record TakesMark (old new : Board) (p : ℕ) : Type 0 where
+  pub was : is_marked old p ≡ true
+  pub cleared : is_marked new p ≡ false
+  pub others : SameFlagsBut p old.marks new.marks

@@ -2,6 +2,7 @@
 use Rattle.std.specs.Prelude.{◌≡◌, ℕ, ◌+◌, ◌-◌, ◌*◌, ◌/◌, ◌^◌, ◌<◌, ◌≤◌, ◌==◌, true, List, [], ◌∷◌, ◌++◌, drop, length, unwrap_or, slice_index, slice_set, vec_capacity}
 use Rattle.std.specs.List.{IsDistinct, AllByRecursion}
 use Rattle.roman_model.specs.Arena.{Entry}
+use Rattle.roman_lanes.specs.Rows.{is_on}
 use Rattle.roman_model.specs.Lists.{below}
 use Rattle.roman_order.specs.Board.{AreWordsOf, Board, set_lanes, nodes_of, has_entry, place_in_list}
 use Rattle.roman_order.specs.Batches.{IsBatch, entries_of}
@@ -48,6 +49,12 @@ abbrev pub with_stamps : ℕ → List ℕ → List ℕ → List ℕ
 with_stamps i [] stamps = stamps
 with_stamps i (p ∷ ps) stamps = with_stamps (i + 1) ps (slice_set stamps p i)
 
+-- the entries for the lanes of a word lie in the table, and their places from `place` on are numbers of 32 bits
+pub record CanWriteStamps (stamps : List ℕ) (first word place : ℕ) : Type 0 where
+  pub within : (lane : ℕ) → is_on word lane ≡ true → first + lane < length stamps
+  pub few : length stamps < 2 ^ 32
+  pub fits : place + length (set_lanes word) < 2 ^ 32
+
 -- the place of each batch's first entry, if n entries come before the first batch
 abbrev pub firsts_of : ℕ → List Batch → List ℕ
 firsts_of n [] = []
@@ -56,6 +63,17 @@ firsts_of n (e ∷ es) = n ∷ firsts_of (n + length (set_lanes e.lanes)) es
 -- the places of the first entries of so many batches: first those that equal their numbers, which the table leaves out, then those of the table
 abbrev pub places_of : ℕ → List ℕ → List ℕ
 places_of many later = below (many - length later) ++ later
+
+-- the place of the first entry of batch j
+abbrev pub batch_start : ℕ → List ℕ → ℕ → ℕ
+batch_start many later j = slice_index (places_of many later) j
+
+-- batch j begins at place `start` of the list, and is the last batch that begins at place i or before
+pub record IsLastFrom (many : ℕ) (later : List ℕ) (i j start : ℕ) : Type 0 where
+  pub within : j < many
+  pub first : start ≡ batch_start many later j
+  pub from : start ≤ i
+  pub to : j + 1 < many → i < batch_start many later (j + 1)
 
 -- each batch has entries, and the count and the places are right
 pub record AreCounted (lanes n : ℕ) (places : List ℕ) (es : List Batch) : Type 0 where

@@ -1,6 +1,5 @@
 //! The removal list, and the tables beside it.
-ghost use Rattle.std.specs.Prelude.{◌≡◌, ℕ, ◌+◌, ◌*◌, ◌/◌, ◌<◌, ◌≤◌, ◌==◌, not, true, false, [], ◌∷◌, ◌++◌, length, replicate, count_by, vec_capacity};
-ghost use Rattle.std.specs.Prelude.{IfOk, IfSome, IfNone};
+ghost use Rattle.std.specs.Prelude.{◌≡◌, ℕ, ◌+◌, ◌*◌, ◌/◌, ◌<◌, ◌≤◌, ◌==◌, not, true, false, [], ◌∷◌, ◌++◌, length, replicate, count_by, vec_capacity, IfOk, IfSome, IfNone};
 ghost use Rattle.std.specs.List.{IsDistinct};
 ghost use Rattle.roman_model.specs.Lists.{below};
 ghost use Rattle.roman_order.specs.Board.{ChangesOnlyWaiting, StaysIdle, pairs_of, as_entry, nodes_of, has_entry, is_marked};
@@ -204,17 +203,11 @@ impl Order {
         } }
         ensures unmarked { (p : ℕ) → is_marked self.new p ≡ false }
     {
-        self.batches.clear();
-        self.firsts.clear();
-        self.count = 0;
-        self.stamps.clear();
-        self.levels.clear();
-        let pairs = rows * lanes;
-        refill(&mut self.words, rows as usize, u64::MAX >> (64 - lanes));
-        refill(&mut self.before, rows as usize, 0);
-        refill(&mut self.marks, flags::words_for(pairs), 0);
-        self.rows = rows;
-        self.lanes = lanes;
+        let waiting_lanes = self.waiting_lanes;
+        self.reopen(rows, lanes);
+        self.waiting.clear();
+        self.next = 0;
+        self.waiting_lanes = waiting_lanes;
     }
 
     /// Makes the entries of the list wait, in order, and begins an empty list for `rows` rows of

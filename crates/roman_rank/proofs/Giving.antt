@@ -96,15 +96,8 @@ ranks_more A ok levels L n old new are apart long l few same gives below =
 -- after all levels, or after one more than there are nodes, each node has its rank
 pub ranks_all : (A : Arena ℕ) → IsNumbered A → (levels : List ℕ) (L : List (Entry ℕ)) (n : ℕ) (table : List ℕ) → AreLevels A levels L → HoldsAllLost A L →
     n ≡ min (length levels) (length A.nodes + 1) → AreRanksBelow A n table → AreRanks A table
-ranks_all A ok levels L n table are all last below = record {
-  long = below.long;
-  each = λ p inside. by_test (loses_before A n p)
-      (λ t. (below.lost p inside t).1)
-      (λ f. inr (below.others p inside f, λ k. by_test (loses A k p) (λ t. absurd (never p inside f k t)) (λ g. g)));
-}
-  where
-    never : (p : ℕ) → p < length A.nodes → IsFalse (loses_before A n p) → (k : ℕ) → IsTrue (loses A k p) → ⊥
-    never p inside f k t = elim (cases_lt n (length levels)) [
+ranks_all A ok levels L n table are all last below =
+    let never : (p : ℕ) → p < length A.nodes → IsFalse (loses_before A n p) → (k : ℕ) → IsTrue (loses A k p) → ⊥ = λ p inside f k t. elim (cases_lt n (length levels)) [
       | inl less ↦
           let here : n ≡ length A.nodes + 1 = omega (arith, last) in
           let g : IsFalse (loses A (length A.nodes) p) = loses_before_less A n (length A.nodes) p (omega arith) f in
@@ -120,7 +113,13 @@ ranks_all A ok levels L n table are all last below = record {
           let there : is_listed A L p ≡ loses A (length levels - 1) p =
           ap (λ M. is_listed A M p) (sym whole) ∙ (are.each (length levels - 1) (omega (arith, are.some))).each p inside in
           both_ways (is_listed A L p) (there ∙ g) (all.each p inside k t)
-    ]
+    ] in
+    record {
+      long = below.long;
+      each = λ p inside. by_test (loses_before A n p)
+          (λ t. (below.lost p inside t).1)
+          (λ f. inr (below.others p inside f, λ k. by_test (loses A k p) (λ t. absurd (never p inside f k t)) (λ g. g)));
+    }
 
 -- ranks are numbers of 32 bits
 pub ranks_small : (A : Arena ℕ) (table : List ℕ) → AreRanks A table → (p : ℕ) → slice_index table p < 2 ^ 32

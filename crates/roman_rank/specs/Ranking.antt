@@ -66,3 +66,7 @@ pub record GivesLevel (L : List (Entry ℕ)) (start end n : ℕ) (old new : List
 -- the list has each node at which the opponent ever wins
 pub record HoldsAllLost (A : Arena ℕ) (L : List (Entry ℕ)) : Type 0 where
   pub each : (p : ℕ) → p < length A.nodes → (n : ℕ) → IsTrue (loses A n p) → IsTrue (is_listed A L p)
+
+-- the arena has so few nodes that each depth is less than the number that means no depth
+abbrev pub HasFewNodes : Arena ℕ → Type 0
+HasFewNodes A = length A.nodes < 2 ^ 32 - 1

@@ -1,9 +1,9 @@
 //! Assigns the levels of a removal list to its pairs.
-ghost use Rattle.std.specs.Prelude.{◌≡◌, ◌-◌, ◌^◌, ◌<◌, ◌≤◌, length, IfOk};
-ghost use Rattle.roman_relation.specs.Shaped.{IsShaped};
+ghost use Rattle.std.specs.Prelude.{◌≡◌, ◌-◌, ◌<◌, ◌≤◌, length, IfOk};
+ghost use Rattle.roman_relation.specs.Shaped.{HasShapeOf};
 ghost use Rattle.roman_relation.specs.Settled.{AreLevels};
 ghost use Rattle.roman_order.specs.Board.{pairs_of};
-ghost use Rattle.roman_rank.specs.Ranking.{AreRanks, GivesLevel, HoldsAllLost};
+ghost use Rattle.roman_rank.specs.Ranking.{HasFewNodes, AreRanks, GivesLevel, HoldsAllLost};
 
 use roman_io::Steps;
 use roman_order::{Ahead, Order};
@@ -19,8 +19,8 @@ pub(crate) fn depths_by<J: Rules>(
     joint: &J,
     order: &Order,
 ) -> Result<Vec<u32>, AllocError>
-    requires few { length (J.arena joint.now).nodes < 2 ^ 32 - 1 }
-    requires shaped { IsShaped (J.arena joint.now) (J.lanes joint.now) order.now }
+    requires few { HasFewNodes (J.arena joint.now) }
+    requires shaped { HasShapeOf J.Rules joint.now order.now }
     requires levels { AreLevels (J.arena joint.now) order.now.levels order.now.list }
     requires all { HoldsAllLost (J.arena joint.now) order.now.list }
     ensures { IfOk result (λ depths. AreRanks (J.arena joint.now) depths.items) }
@@ -66,7 +66,7 @@ pub(crate) fn depths_anew<J: Rules, L: Ledger>(
     joint: &J,
     steps: &mut Steps<L>,
 ) -> Result<Vec<u32>, AllocError>
-    requires { length (J.arena joint.now).nodes < 2 ^ 32 - 1 }
+    requires { HasFewNodes (J.arena joint.now) }
     ensures { IfOk result (λ depths. AreRanks (J.arena joint.now) depths.items) }
 {
     joint.known(); // pairs are numbered from 0

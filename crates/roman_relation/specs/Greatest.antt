@@ -1,5 +1,6 @@
 -- Relations: a joint with an order of its pairs.
-use Rattle.std.specs.Prelude.{◌≡◌, ℕ, ◌/◌, ◌⊎◌, []}
+use Rattle.std.specs.Prelude.{◌≡◌, ℕ, ◌/◌, ◌⊎◌, [], drop, length}
+use Rattle.roman_model.specs.Arena.{IsOrder, fall}
 use Rattle.roman_model.specs.Numbers.{IsCompleteList}
 use Rattle.roman_joint.specs.NamedSys.{NamedSys, system_of}
 use Rattle.roman_joint.specs.Pairs.{arena_of}
@@ -61,3 +62,13 @@ HasLevels relation = AreLevels (arena_of relation.joint) relation.order.levels r
 -- the joint and the order are those of a relation between two changes
 abbrev pub IsUpToDate : Relation → Type 0
 IsUpToDate relation = IsRelation relation.joint relation.order
+
+-- the relation's list can be completed: it is a removal list, the order is shaped for the joint, and no entry waits
+pub record CanSettle (relation : Relation) : Type 0 where
+  pub shaped : HasShape relation
+  pub valid : IsOrder (arena_of relation.joint) relation.order.list
+  pub idle : IsIdle relation
+
+-- the number of delegations that lead to the pairs that the new relation's list has after those of the old one's
+abbrev pub fall_since : Relation → Relation → ℕ
+fall_since old new = fall (arena_of old.joint) (drop (length old.order.list) new.order.list)

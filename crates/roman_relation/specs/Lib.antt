@@ -1,3 +1,4 @@
+pub mod Seats
 pub mod Shaped
 pub mod Settled
 pub mod Rounds

@@ -5,6 +5,7 @@ use Rattle.roman_model.specs.Lists.{IsIn, below}
 use Rattle.roman_model.specs.Arena.{Arena, Entry, is_listed, is_justified, back, IsOrder}
 use Rattle.roman_model.specs.declared.reason.Reason.{Reason}
 use Rattle.roman_model.specs.declared.reason.Reason.TheVariants.{Act}
+use Rattle.roman_rules.specs.declared.rules.Rules.{Ghosts as RulesView}
 use Rattle.roman_lanes.specs.Rows.{is_on, HasLanes, AreRows}
 use Rattle.roman_order.specs.Board.{Board, is_marked}
 use Rattle.roman_relation.specs.Settled.{Begins, IsFineOrListed}
@@ -27,6 +28,10 @@ pub record AwaitsRound (A : Arena ℕ) (lanes band : ℕ) (board : Board) : Type
   pub fine : (p : ℕ) → p < length A.nodes → IsFineOrListed A board.list p
   pub served : (p a : ℕ) → p < length A.nodes → is_marked board (p / lanes / band) ≡ false → IsFalse (is_listed A board.list p) →
       IsFalse (is_justified A (is_listed A board.list) p (Act a))
+
+-- between two rounds of a joint
+abbrev pub AwaitsRoundOf : {J R : Type 0} → RulesView J R → J → Board → Type 0
+AwaitsRoundOf J joint board = AwaitsRound (J.arena joint) (J.lanes joint) (J.band joint) board
 
 -- some action is a reason to remove p, with these nodes gone
 abbrev pub falls : Arena ℕ → (ℕ → Bool) → ℕ → Bool

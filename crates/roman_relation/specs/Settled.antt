@@ -9,6 +9,10 @@ use Rattle.roman_order.specs.Board.{Board}
 abbrev pub Begins : List (Entry ℕ) → List (Entry ℕ) → Type 0
 Begins L M = take (length L) M ≡ L
 
+-- the old order with the list, the levels, the marks and the kept words of the new one
+abbrev pub with_list_of : Board → Board → Board
+with_list_of old new = record old { list = new.list; marks = new.marks; before = new.before; levels = new.levels }
+
 -- the new order has a removal list that begins with the old one's, and otherwise only its marks and kept words have changed
 pub record SettlesOn (A : Arena ℕ) (old new : Board) : Type 0 where
   pub valid : IsOrder A new.list

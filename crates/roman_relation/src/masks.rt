@@ -1,10 +1,9 @@
 //! Masks, and the number of seats in all masks together.
-ghost use Rattle.std.specs.Prelude.{◌≡◌, ◌+◌, ◌*◌, ◌<◌, ◌≤◌, length, sum_by};
-ghost use Rattle.roman_model.specs.Lists.{below};
+ghost use Rattle.std.specs.Prelude.{◌≡◌, ◌+◌, ◌*◌, ◌<◌, ◌≤◌, length};
 ghost use Rattle.roman_model.specs.System.{has};
 ghost use Rattle.roman_model.specs.Arena.{is_listed, choices};
 ghost use Rattle.roman_rules.specs.Bits.{HasBits};
-ghost use Rattle.roman_relation.specs.Shaped.{IsShaped, mask_by};
+ghost use Rattle.roman_relation.specs.Shaped.{HasShapeOf, mask_by, choices_in_band};
 
 use roman_order::Order;
 use roman_rules::{Rules, SeatSet};
@@ -12,7 +11,7 @@ use roman_rules::{Rules, SeatSet};
 /// Returns the mask of the action `a` at the pair `p`: the seats that have an outcome there, and
 /// only outcomes that aren't listed.
 pub(crate) fn mask<J: Rules>(joint: &J, order: &Order, p: u32, a: u8) -> SeatSet
-    requires shaped { IsShaped (J.arena joint.now) (J.lanes joint.now) order.now }
+    requires shaped { HasShapeOf J.Rules joint.now order.now }
     requires pair { p < length (J.arena joint.now).nodes }
     requires action { a < (J.arena joint.now).actions }
     ensures { HasBits result (has (mask_by (J.arena joint.now) order.now.list p a)) }
@@ -26,7 +25,7 @@ pub(crate) fn mask<J: Rules>(joint: &J, order: &Order, p: u32, a: u8) -> SeatSet
 
 /// Returns the number of seats in the masks of all pairs and actions together.
 pub(crate) fn choices<J: Rules>(joint: &J, order: &Order) -> u64
-    requires { IsShaped (J.arena joint.now) (J.lanes joint.now) order.now }
+    requires { HasShapeOf J.Rules joint.now order.now }
     ensures { let A = J.arena joint.now in result ≡ choices A (is_listed A order.now.list) }
 {
     joint.known(); // a row has 1 to 64 lanes, a band has 1 to 64 rows
@@ -41,11 +40,9 @@ pub(crate) fn choices<J: Rules>(joint: &J, order: &Order) -> u64
 /// It is at most 4,194,304.
 #[tactic(auto, using(crate::proofs::Bands::band_begins))]
 fn band_choices<J: Rules>(joint: &J, order: &Order, y: u32) -> u64
-    requires shaped { IsShaped (J.arena joint.now) (J.lanes joint.now) order.now }
+    requires shaped { HasShapeOf J.Rules joint.now order.now }
     requires band { y * J.band joint.now < order.now.rows }
-    ensures counted { let A = J.arena joint.now in result ≡ sum_by (λ a. sum_by (λ i. sum_by
-        (λ lane. length (mask_by A order.now.list ((y * J.band joint.now + i) * J.lanes joint.now + lane) a))
-        (below (J.lanes joint.now))) (below (J.band joint.now))) (below A.actions) }
+    ensures counted { result ≡ choices_in_band J.Rules joint.now order.now.list y }
     ensures bound { result ≤ 4194304 }
 {
     joint.known(); // there are at most 32 actions, a row has 1 to 64 lanes

@@ -1,9 +1,7 @@
 //! The greatest relation of a joint.
-ghost use Rattle.std.specs.Prelude.{◌≡◌, ◌+◌, ◌<◌, ◌≤◌, ◌↔◌, not};
-ghost use Rattle.std.specs.Prelude.{length, drop, filter, IsTrue, IfOk};
+ghost use Rattle.std.specs.Prelude.{◌≡◌, ◌+◌, ◌<◌, ◌≤◌, ◌↔◌, not, length, filter, IsTrue, IfOk};
 ghost use Rattle.roman_model.specs.System.{has};
 ghost use Rattle.roman_model.specs.SystemArena.{pairs};
-ghost use Rattle.roman_model.specs.Arena.{IsOrder, fall};
 ghost use Rattle.roman_model.specs.Composition.{Great};
 ghost use Rattle.roman_model.specs.Numbers.{sizes_of, pair_at};
 ghost use Rattle.roman_model.specs.Offers.{is_related, choice_count};
@@ -12,8 +10,8 @@ ghost use Rattle.roman_joint.specs.NamedSys.{system_of};
 ghost use Rattle.roman_joint.specs.Parts.{HasSameParts};
 ghost use Rattle.roman_order.specs.Board.{has_entry};
 ghost use Rattle.roman_relation.specs.Shaped.{mask_by};
-ghost use Rattle.roman_relation.specs.Settled.{Begins};
-ghost use Rattle.roman_relation.specs.Greatest.{HasAllLost, HasCapacity, HasLevels, HasShape, IsIdle, RisesInDepth};
+ghost use Rattle.roman_relation.specs.Settled.{Begins, with_list_of};
+ghost use Rattle.roman_relation.specs.Greatest.{CanSettle, fall_since, HasAllLost, HasCapacity, HasLevels, HasShape, IsIdle, RisesInDepth};
 ghost use Rattle.roman_joint.specs.Pairs.{joint_pairs, joint_actions, arena_of};
 
 use crate::masks;
@@ -181,21 +179,11 @@ impl Relation {
     /// by those before it, and an order without waiting entries. Counts at most as many steps as
     /// delegations lead to the added pairs. Levels are kept only if the list was empty.
     pub fn settle<L: Ledger>(&mut self, steps: &mut Steps<L>)
-        requires shaped { HasShape self.old }
-        requires valid { IsOrder (arena_of self.old.joint) self.old.order.list }
-        requires idle { IsIdle self.old }
+        requires { CanSettle self.old }
         ensures complete { HasAllLost self.new }
         ensures begins { Begins self.old.order.list self.new.order.list }
-        ensures rest { self.new ≡ record self.old {
-          order = record self.old.order {
-            list = self.new.order.list;
-            marks = self.new.order.marks;
-            before = self.new.order.before;
-            levels = self.new.order.levels;
-          };
-        } }
-        ensures cost { steps.new
-            ≤ steps.old + fall (arena_of self.old.joint) (drop (length self.old.order.list) self.new.order.list) }
+        ensures rest { self.new ≡ record self.old { order = with_list_of self.old.order self.new.order } }
+        ensures cost { steps.new ≤ steps.old + fall_since self.old self.new }
     {
         self.joint.known(); // the system is well formed
         settle_list(&self.joint, &mut self.order, steps);

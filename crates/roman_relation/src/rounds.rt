@@ -1,11 +1,10 @@
 //! Plays the rounds that make a removal list complete.
-ghost use Rattle.std.specs.Prelude.{◌≡◌, ◌≢◌, ℕ, suc, true, false, ◌+◌, ◌/◌, ◌≤◌, ◌⊎◌, IsTrue, [], ◌∷◌, ◌++◌};
-ghost use Rattle.std.specs.Prelude.{length, drop};
-ghost use Rattle.roman_model.specs.Arena.{is_listed, IsOrder, fall};
-ghost use Rattle.roman_order.specs.Board.{is_marked};
-ghost use Rattle.roman_relation.specs.Shaped.{IsShaped};
-ghost use Rattle.roman_relation.specs.Settled.{Begins, SettlesOn, IsSettled, HoldsLost, RisesByDepth, AreLevels};
-ghost use Rattle.roman_relation.specs.Rounds.{AwaitsRound, moves_to_all};
+ghost use Rattle.std.specs.Prelude.{◌≡◌, ◌≢◌, ℕ, suc, true, false, ◌+◌, ◌/◌, ◌≤◌, ◌⊎◌, IsTrue, [], length, drop};
+ghost use Rattle.roman_model.specs.Arena.{is_listed, fall};
+ghost use Rattle.roman_order.specs.Board.{is_marked, ChangesOnlyLevels, EndsLevel};
+ghost use Rattle.roman_relation.specs.Shaped.{IsOrderFor};
+ghost use Rattle.roman_relation.specs.Settled.{Begins, SettlesOn, IsSettled, HoldsLost, RisesByDepth, AreLevels, with_list_of};
+ghost use Rattle.roman_relation.specs.Rounds.{AwaitsRoundOf, moves_to_all};
 
 mod judging;
 mod listing;
@@ -23,9 +22,8 @@ use unfine::list_unfine;
 /// Prepares a removal list for rounds: lists the pairs that don't meet clause 2 of an
 /// ND-simulation, stores all words as kept words, and marks all bands for the first round.
 pub fn begin_rounds<J: Rules>(joint: &J, order: &mut Order)
-    requires shaped { IsShaped (J.arena joint.now) (J.lanes joint.now) order.old }
-    requires valid { IsOrder (J.arena joint.now) order.old.list }
-    ensures ready { AwaitsRound (J.arena joint.now) (J.lanes joint.now) (J.band joint.now) order.new }
+    requires { IsOrderFor J.Rules joint.now order.old }
+    ensures ready { AwaitsRoundOf J.Rules joint.now order.new }
     ensures goes_on { SettlesOn (J.arena joint.now) order.old order.new }
     ensures lost { order.old.list ≡ [] → HoldsLost (J.arena joint.now) 0 order.new.list }
 {
@@ -45,8 +43,8 @@ pub fn begin_rounds<J: Rules>(joint: &J, order: &mut Order)
 /// the band's own that leads to a given one of its pairs. These are at most as many steps as
 /// delegations lead to the added pairs.
 pub fn play_round<J: Rules, L: Ledger>(joint: &J, order: &mut Order, steps: &mut Steps<L>)
-    requires ready { AwaitsRound (J.arena joint.now) (J.lanes joint.now) (J.band joint.now) order.old }
-    ensures ready { AwaitsRound (J.arena joint.now) (J.lanes joint.now) (J.band joint.now) order.new }
+    requires ready { AwaitsRoundOf J.Rules joint.now order.old }
+    ensures ready { AwaitsRoundOf J.Rules joint.now order.new }
     ensures goes_on { SettlesOn (J.arena joint.now) order.old order.new }
     ensures only { let A = J.arena joint.now in (p : ℕ) → IsTrue (is_listed A order.new.list p) →
         IsTrue (is_listed A order.old.list p)
@@ -74,16 +72,10 @@ pub fn play_round<J: Rules, L: Ledger>(joint: &J, order: &mut Order, steps: &mut
 /// list has the pairs at which the opponent wins within n requests. From any other list the order
 /// keeps no levels.
 pub fn settle_list<J: Rules, L: Ledger>(joint: &J, order: &mut Order, steps: &mut Steps<L>)
-    requires shaped { IsShaped (J.arena joint.now) (J.lanes joint.now) order.old }
-    requires valid { IsOrder (J.arena joint.now) order.old.list }
+    requires { IsOrderFor J.Rules joint.now order.old }
     ensures settled { IsSettled (J.arena joint.now) order.new.list }
     ensures begins { Begins order.old.list order.new.list }
-    ensures rest { order.new ≡ record order.old {
-      list = order.new.list;
-      marks = order.new.marks;
-      before = order.new.before;
-      levels = order.new.levels;
-    } }
+    ensures rest { order.new ≡ with_list_of order.old order.new }
     ensures levels { order.old.list ≡ [] → AreLevels (J.arena joint.now) order.new.levels order.new.list }
     ensures forgotten { order.old.list ≢ [] → order.new.levels ≡ [] }
     ensures rises { order.old.list ≡ [] → RisesByDepth (J.arena joint.now) order.new.list }
@@ -108,8 +100,8 @@ pub fn settle_list<J: Rules, L: Ledger>(joint: &J, order: &mut Order, steps: &mu
 // Ends a level if `is_kept` is true.
 fn end_level(order: &mut Order, is_kept: bool)
     requires { length order.old.levels ≤ order.old.cap_pairs }
-    ensures rest { order.new ≡ record order.old { levels = order.new.levels } }
-    ensures kept { is_kept ≡ true → order.new.levels ≡ order.old.levels ++ length order.old.list ∷ [] }
+    ensures rest { ChangesOnlyLevels order.old order.new }
+    ensures kept { is_kept ≡ true → EndsLevel order.old order.new }
     ensures left { is_kept ≡ false → order.new.levels ≡ order.old.levels }
     ensures few { length order.new.levels ≤ length order.old.levels + 1 }
 {

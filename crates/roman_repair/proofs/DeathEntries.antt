@@ -14,22 +14,19 @@ first_numbers_seen seen more (x ∷ L) same = grind (arith, (first_numbers_seen 
 first_apart : (f : ℕ → Entry ℕ) (known : ℕ → Bool) (more ls : List ℕ) → ((i j : ℕ) → (f i).node ≡ (f j).node → i ≡ j) → HasNoRepeats ls → ((i : ℕ) → IsIn i ls → list_any (λ j. (f i).node == j) more ≡ known i) →
     first_numbers more (map f ls) ≡ map f (filter (λ i. not (known i)) ls)
 first_apart f known more [] apart once same = refl
-first_apart f known more (i ∷ ls) apart once same = grind (arith, (first_apart f known more ls apart once.1 (λ j h. same j (inr h))), (first_apart f known ((f i).node ∷ more) ls apart once.1 others), (same i (inl refl)))
-  where
-    others : (j : ℕ) → IsIn j ls → list_any (λ m. (f j).node == m) ((f i).node ∷ more) ≡ known j
-    others j h =
-        let differ : IsFalse ((f j).node == (f i).node) = false_from_ne_true ((f j).node == (f i).node) (λ t. once.0 (subst (λ m. IsIn m ls) (apart j i (eqb-true (f j).node (f i).node t)) h)) in
-        ap (λ b. b || list_any (λ m. (f j).node == m) more) differ ∙ same j (inr h)
+first_apart f known more (i ∷ ls) apart once same =
+    let others : (j : ℕ) → IsIn j ls → list_any (λ m. (f j).node == m) ((f i).node ∷ more) ≡ known j = λ j h.
+    let differ : IsFalse ((f j).node == (f i).node) = false_from_ne_true ((f j).node == (f i).node) (λ t. once.0 (subst (λ m. IsIn m ls) (apart j i (eqb-true (f j).node (f i).node t)) h)) in
+    ap (λ b. b || list_any (λ m. (f j).node == m) more) differ ∙ same j (inr h) in
+    grind (arith, (first_apart f known more ls apart once.1 (λ j h. same j (inr h))), (first_apart f known ((f i).node ∷ more) ls apart once.1 others), (same i (inl refl)))
 
 -- The renamed entries.
 
 -- the first entry is renamed, and then the others
 list_with_step : (n : Sizes) (k : ℕ) (seat : Seat) (L : List (Entry ℕ)) (x : Entry ℕ) (W : List (Entry ℕ)) → list_with n k seat L (x ∷ W) ≡ list_with n k seat (list_with n k seat L (x ∷ [])) W
 list_with_step n k seat L x W =
+    let y : Entry ℕ = number_entry_without k n x in
     grind (arith, append-nil, append_assoc, (first_numbers_seen (y.node ∷ nodes_of L) (nodes_of (L ++ y ∷ [])) (map (number_entry_without k n) (filter (λ x. may_go k seat (pair_at n x.node)) W)) (λ i. grind (arith, list_any-append, map-append))))
-  where
-    y : Entry ℕ
-    y = number_entry_without k n x
 
 -- the renamed entries of one list, and then those of another
 list_with_append : (n : Sizes) (k : ℕ) (seat : Seat) (L V W : List (Entry ℕ)) → list_with n k seat L (V ++ W) ≡ list_with n k seat (list_with n k seat L V) W
@@ -71,17 +68,22 @@ part_stays s k first word reason L is goes = record {
 pub part_left : (s : Sys) (k first word left lanes alive : ℕ) (reason : Reason) (L : List (Entry ℕ)) → AreInPart (sizes_of s) k first word → Goes s k first true →
     left ≡ number (sizes_without k (sizes_of s)) (without k (pair_at (sizes_of s) first)) → lanes ≡ lanes_of (remove (sizes_of s).seats k) → (0 < lanes) × (lanes ≤ 64) → HasLanes lanes (left / lanes) (λ p. not (has_entry L p)) alive →
     Renames s k (entries_from first word reason) [] L (L ++ entries_in lanes (left / lanes) (bit_and (word * 2 ^ (left % lanes) % 2 ^ 64) alive) reason)
-part_left s k first word left lanes alive reason L is goes number_is wide few rows = record {
-  list = λ seat seated. append-nil _ ∙ ap (λ M. L ++ M) (
-      ap (map (λ lane. as_entry (left / lanes * lanes + lane, reason))) (moved_lanes word alive (left % lanes) new (omega (arith, mod_below left lanes few.0, few.1)) each)
-      ∙ map-map (λ lane. as_entry (left / lanes * lanes + lane, reason)) (λ i. left % lanes + i) (filter new (set_lanes word))
-      ∙ map_same_in (λ i. as_entry (left / lanes * lanes + (left % lanes + i), reason)) f (filter new (set_lanes word)) (λ i h. ap (λ p. as_entry (p, reason)) (place i))
-      ∙ sym (first_apart f (λ i. has_entry L (left + i)) (nodes_of L) (set_lanes word) (λ i j e. omega (arith, e)) (lanes_once word) (λ i h. list_any-map (λ (x : Entry ℕ). x.node) (λ j. left + i == j) L))
-      ∙ ap (first_numbers (nodes_of L)) (sym (
-      ap (map (number_entry_without k n)) (part_goes n k seat first word true reason is (goes seat seated))
-      ∙ map-map (number_entry_without k n) (λ i. as_entry (first + i, reason)) (set_lanes word)
-      ∙ map_same_in (λ i. number_entry_without k n (as_entry (first + i, reason))) f (set_lanes word) (λ i h. ap (λ p. as_entry (p, reason)) (number_at i (in_lanes word i h).1)))));
-}
+part_left s k first word left lanes alive reason L is goes number_is wide few rows =
+    let f : ℕ → Entry ℕ = λ i. as_entry (left + i, reason) in
+    let number_at : (i : ℕ) → is_on word i ≡ true → number_without k n (first + i) ≡ left + i = λ i on.
+    let (width, j, part, e, within) = is.part in
+    ap (λ p. number_without k n (p + i)) e ∙ part_number n k width j i part (within i on) ∙ ap (λ p. number_without k n p + i) (sym e) ∙ ap (λ p. p + i) (sym moved) in
+    record {
+      list = λ seat seated. append-nil _ ∙ ap (λ M. L ++ M) (
+          ap (map (λ lane. as_entry (left / lanes * lanes + lane, reason))) (moved_lanes word alive (left % lanes) new (omega (arith, mod_below left lanes few.0, few.1)) each)
+          ∙ map-map (λ lane. as_entry (left / lanes * lanes + lane, reason)) (λ i. left % lanes + i) (filter new (set_lanes word))
+          ∙ map_same_in (λ i. as_entry (left / lanes * lanes + (left % lanes + i), reason)) f (filter new (set_lanes word)) (λ i h. ap (λ p. as_entry (p, reason)) (place i))
+          ∙ sym (first_apart f (λ i. has_entry L (left + i)) (nodes_of L) (set_lanes word) (λ i j e. omega (arith, e)) (lanes_once word) (λ i h. list_any-map (λ (x : Entry ℕ). x.node) (λ j. left + i == j) L))
+          ∙ ap (first_numbers (nodes_of L)) (sym (
+          ap (map (number_entry_without k n)) (part_goes n k seat first word true reason is (goes seat seated))
+          ∙ map-map (number_entry_without k n) (λ i. as_entry (first + i, reason)) (set_lanes word)
+          ∙ map_same_in (λ i. number_entry_without k n (as_entry (first + i, reason))) f (set_lanes word) (λ i h. ap (λ p. as_entry (p, reason)) (number_at i (in_lanes word i h).1)))));
+    }
   where
     n : Sizes
     n = sizes_of s
@@ -89,19 +91,11 @@ part_left s k first word left lanes alive reason L is goes number_is wide few ro
     moved : left ≡ number_without k n first
     moved = number_is ∙ number_without-is n first k is.inside is.seat
 
-    f : ℕ → Entry ℕ
-    f i = as_entry (left + i, reason)
-
     new : ℕ → Bool
     new i = not (has_entry L (left + i))
 
     place : (i : ℕ) → left / lanes * lanes + (left % lanes + i) ≡ left + i
     place i = let whole : left / lanes * lanes + left % lanes ≡ left = div-add-mod' left lanes in omega arith
-
-    number_at : (i : ℕ) → is_on word i ≡ true → number_without k n (first + i) ≡ left + i
-    number_at i on =
-        let (width, j, part, e, within) = is.part in
-        ap (λ p. number_without k n (p + i)) e ∙ part_number n k width j i part (within i on) ∙ ap (λ p. number_without k n p + i) (sym e) ∙ ap (λ p. p + i) (sym moved)
 
     each : (i : ℕ) → i < 64 → is_on word i ≡ true → (left % lanes + i < 64) × (is_on alive (left % lanes + i) ≡ new i)
     each i h on =

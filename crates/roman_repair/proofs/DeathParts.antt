@@ -117,6 +117,10 @@ row_in s e is = let (lane, i) = some_in (set_lanes e.lanes) is.batch.some in ome
 pub part_in : (n : NamedSys) (shape : Sizes) (e : Batch) (k first left w i part rest : ℕ) → IsWithin (system_of n) e → shape ≡ sizes_of (system_of n) → k < length n.seats → first ≡ e.row * lanes_in (system_of n) → IsPart shape.seats k w →
     ((lane : ℕ) → is_on left lane ≡ true → is_on e.lanes lane ≡ true) → IsFirstPart left w i part rest → AreInPart (sizes_of (system_of n)) k (first + i * w) part
 part_in n shape e k first left w i part rest is same there row wide within begins =
+    let s : Sys = system_of n in
+    let pair : (lane : ℕ) → is_on part lane ≡ true → e.row * lanes_in s + (i * w + lane) < count (sizes_of s) = λ lane on.
+    let there = within (i * w + lane) (begins.in_part lane on).1 in
+    pair_in s e (i * w + lane) is (on_in e.lanes (i * w + lane) (omega (arith, is.batch.within (i * w + lane) there, lanes_few (sizes_of s).seats)) there) in
     let parts = subst (λ (m : Sizes). IsPart m.seats k w) same wide in
     let (c, whole) = parts.lanes in
     let slices : e.row * lanes_in s ≡ e.row * (c * w) = ap (λ m. e.row * m) whole in
@@ -127,11 +131,3 @@ part_in n shape e k first left w i part rest is same there row wide within begin
       pair = λ lane on. omega (arith, row, pair lane on);
       part = (w, e.row * c + i, parts, omega (arith, row, slices), λ lane on. (begins.in_part lane on).0);
     }
-  where
-    s : Sys
-    s = system_of n
-
-    pair : (lane : ℕ) → is_on part lane ≡ true → e.row * lanes_in s + (i * w + lane) < count (sizes_of s)
-    pair lane on =
-        let there = within (i * w + lane) (begins.in_part lane on).1 in
-        pair_in s e (i * w + lane) is (on_in e.lanes (i * w + lane) (omega (arith, is.batch.within (i * w + lane) there, lanes_few (sizes_of s).seats)) there)

@@ -56,32 +56,21 @@ only_so_far q b m off = filter_split q b m ∙ ap (λ M. filter q (below b) ++ m
 
 -- the two parts of a word, as the code computes them
 pub is_cut : (word cut : ℕ) → word < 2 ^ 64 → cut ≤ 64 → let front = bit_and word ((2 ^ 64 - 1) / 2 ^ (64 - cut)) in IsCutAt word front (bit_and word (bit_not w64 front)) cut
-is_cut word cut fits few = record {
-  parts = set_lanes-joined word front rest (λ lane l. grind (arith, cases_Bool, cases_lt, (low lane), (high lane), (less lane l))) (λ i j on there. grind (arith, both_ways, cases_lt, (low j), (high i), (less j), (of_word (bit_not w64 front) j there)));
-  low = low;
-  high = high;
-  in_front = of_word ((2 ^ 64 - 1) / 2 ^ (64 - cut));
-  in_rest = of_word (bit_not w64 front);
-  fits = both_fit word (bit_not w64 front) fits;
-}
-  where
-    front : ℕ
-    front = bit_and word ((2 ^ 64 - 1) / 2 ^ (64 - cut))
-
-    rest : ℕ
-    rest = bit_and word (bit_not w64 front)
-
-    of_word : (mask lane : ℕ) → is_on (bit_and word mask) lane ≡ true → is_on word lane ≡ true
-    of_word mask lane on = (and_parts (is_on word lane) (is_on mask lane) (sym (on_and word mask lane) ∙ on)).0
-
-    low : (lane : ℕ) → lane < cut → is_on front lane ≡ is_on word lane
-    low lane l = on_and word _ lane ∙ ap (λ b. is_on word lane && b) (on_full cut lane few l) ∙ and-true (is_on word lane)
-
-    high : (lane : ℕ) → cut ≤ lane → is_on front lane ≡ false
-    high lane past = on_and word _ lane ∙ and_right (is_on word lane) _ (on_full_past cut lane few past)
-
-    less : (lane : ℕ) → lane < 64 → is_on rest lane ≡ (is_on word lane && not (is_on front lane))
-    less lane l = on_less word front lane (both_fit word _ fits) l
+is_cut word cut fits few =
+    let front : ℕ = bit_and word ((2 ^ 64 - 1) / 2 ^ (64 - cut)) in
+    let rest : ℕ = bit_and word (bit_not w64 front) in
+    let of_word : (mask lane : ℕ) → is_on (bit_and word mask) lane ≡ true → is_on word lane ≡ true = λ mask lane on. (and_parts (is_on word lane) (is_on mask lane) (sym (on_and word mask lane) ∙ on)).0 in
+    let low : (lane : ℕ) → lane < cut → is_on front lane ≡ is_on word lane = λ lane l. on_and word _ lane ∙ ap (λ b. is_on word lane && b) (on_full cut lane few l) ∙ and-true (is_on word lane) in
+    let high : (lane : ℕ) → cut ≤ lane → is_on front lane ≡ false = λ lane past. on_and word _ lane ∙ and_right (is_on word lane) _ (on_full_past cut lane few past) in
+    let less : (lane : ℕ) → lane < 64 → is_on rest lane ≡ (is_on word lane && not (is_on front lane)) = λ lane l. on_less word front lane (both_fit word _ fits) l in
+    record {
+      parts = set_lanes-joined word front rest (λ lane l. grind (arith, cases_Bool, cases_lt, (low lane), (high lane), (less lane l))) (λ i j on there. grind (arith, both_ways, cases_lt, (low j), (high i), (less j), (of_word (bit_not w64 front) j there)));
+      low = low;
+      high = high;
+      in_front = of_word ((2 ^ 64 - 1) / 2 ^ (64 - cut));
+      in_rest = of_word (bit_not w64 front);
+      fits = both_fit word (bit_not w64 front) fits;
+    }
 
 pub some_in : (xs : List ℕ) → 0 < length xs → (x : ℕ) × IsIn x xs
 some_in [] some = absurd (omega arith)
@@ -101,41 +90,31 @@ IsFront word held others holds = let end = trailing_zeros w64 others in ((0 < en
 -- the lanes before the first one in a mask are alike
 alike_front : (word held mask : ℕ) (holds : Bool) → word < 2 ^ 64 → 0 < length (set_lanes word) → is_on mask (trailing_zeros w64 word) ≡ false → ((lane : ℕ) → lane < 64 → is_on mask lane ≡ false → is_on held lane ≡ holds) →
     IsFront word held (bit_and word mask) holds
-alike_front word held mask holds fits some off same = (
-  (omega (arith, less), others.few),
-  λ front rest cut. record {
-    parts = cut.parts;
-    some = lane_some front t low (cut.low t less ∙ (first_lane word fits).on low);
-    alike = λ lane on. elim (cases_lt lane end) [
-      | inl l ↦ same lane (omega (arith, l, others.few)) (sym (ap (λ b. b && is_on mask lane) (cut.in_front lane on)) ∙ sym (on_and word mask lane) ∙ others.before lane l)
-      | inr past ↦ absurd (both_ways (is_on front lane) (cut.high lane past) on)
-    ];
-    in_front = cut.in_front;
-    in_rest = cut.in_rest;
-    fits = cut.fits;
-  },
-)
-  where
-    t : ℕ
-    t = trailing_zeros w64 word
-
-    end : ℕ
-    end = trailing_zeros w64 (bit_and word mask)
-
-    others : IsFirst (bit_and word mask) end
-    others = first_lane (bit_and word mask) (both_fit word mask fits)
-
-    low : t < 64
-    low = first_low word fits some
-
-    less : t < end
-    less = elim (cases_lt t end) [
+alike_front word held mask holds fits some off same =
+    let t : ℕ = trailing_zeros w64 word in
+    let end : ℕ = trailing_zeros w64 (bit_and word mask) in
+    let others : IsFirst (bit_and word mask) end = first_lane (bit_and word mask) (both_fit word mask fits) in
+    let low : t < 64 = first_low word fits some in
+    let less : t < end = elim (cases_lt t end) [
       | inl l ↦ l
       | inr past ↦
           let (here, there) = and_parts (is_on word end) (is_on mask end) (sym (on_and word mask end) ∙ others.on (omega (arith, past, low))) in
           let same : end ≡ t = omega (arith, past, from_first word fits end here) in
           absurd (both_ways (is_on mask t) off (ap (is_on mask) (sym same) ∙ there))
-    ]
+    ] in (
+      (omega (arith, less), others.few),
+      λ front rest cut. record {
+        parts = cut.parts;
+        some = lane_some front t low (cut.low t less ∙ (first_lane word fits).on low);
+        alike = λ lane on. elim (cases_lt lane end) [
+          | inl l ↦ same lane (omega (arith, l, others.few)) (sym (ap (λ b. b && is_on mask lane) (cut.in_front lane on)) ∙ sym (on_and word mask lane) ∙ others.before lane l)
+          | inr past ↦ absurd (both_ways (is_on front lane) (cut.high lane past) on)
+        ];
+        in_front = cut.in_front;
+        in_rest = cut.in_rest;
+        fits = cut.fits;
+      },
+    )
 
 -- a bit, as the code reads it
 pub on_read : (a d : ℕ) → is_on a d ≡ eqb (bit_and (a / 2 ^ d) 1) 1
@@ -153,39 +132,28 @@ other_front word held fits some ne = alike_front word held held false fits some 
 pub first_part_is : (word width i front rest cut : ℕ) → word < 2 ^ 64 → 0 < length (set_lanes word) → i * width ≤ trailing_zeros w64 word → trailing_zeros w64 word < i * width + width → cut ≤ i * width + width → cut ≤ 64 → trailing_zeros w64 word < cut →
     IsCutAt word front rest cut → IsFirstPart word width i (front / 2 ^ (i * width)) rest
 unfolding set_lanes
-first_part_is word width i front rest cut fits some begun less end few here is = record {
-  parts = is.parts ∙ ap (λ ls. ls ++ set_lanes rest) moved;
-  some = lane_some part (t - begin) (omega arith) (lowered (t - begin) ∙ ap (is_on front) (let place : begin + (t - begin) ≡ t = omega (arith, begun) in place) ∙ is.low t here ∙ (first_lane word fits).on low);
-  in_part = λ lane on. (let at : is_on front (begin + lane) ≡ true = sym (lowered lane) ∙ on in
-      (elim (cases_lt lane width) [ inl l ↦ l | inr past ↦ absurd (both_ways _ (is.high (begin + lane) (omega (arith, past, end))) at) ], is.in_front (begin + lane) at));
-  in_rest = is.in_rest;
-  fits = is.fits;
-}
-  where
-    t : ℕ
-    t = trailing_zeros w64 word
-
-    begin : ℕ
-    begin = i * width
-
-    part : ℕ
-    part = front / 2 ^ begin
-
-    low : t < 64
-    low = first_low word fits some
-
-    lowered : (lane : ℕ) → is_on part lane ≡ is_on front (begin + lane)
-    lowered lane = on_lowered front begin lane
-
-    moved : set_lanes front ≡ map (λ lane. begin + lane) (set_lanes part)
-    moved =
-        let whole : 64 ≡ begin + (64 - begin) = omega (arith, begun, low) in
-        let turned : 64 ≡ 64 - begin + begin = omega (arith, begun, low) in
-        ap (λ n. filter (is_on front) (below n)) whole
-        ∙ moved_so_far (is_on part) (is_on front) begin (64 - begin)
-        (λ lane l. false_from_ne_true (is_on front lane) (λ on. omega (arith, l, begun, from_first word fits lane (is.in_front lane on)))) (λ lane l. sym (lowered lane))
-        ∙ ap (map (λ lane. begin + lane)) (sym (ap (λ n. filter (is_on part) (below n)) turned
-        ∙ only_so_far (is_on part) (64 - begin) begin (λ lane l. lowered (64 - begin + lane) ∙ is.high (begin + (64 - begin + lane)) (omega (arith, few, begun, low)))))
+first_part_is word width i front rest cut fits some begun less end few here is =
+    let t : ℕ = trailing_zeros w64 word in
+    let begin : ℕ = i * width in
+    let part : ℕ = front / 2 ^ begin in
+    let low : t < 64 = first_low word fits some in
+    let lowered : (lane : ℕ) → is_on part lane ≡ is_on front (begin + lane) = λ lane. on_lowered front begin lane in
+    let moved : set_lanes front ≡ map (λ lane. begin + lane) (set_lanes part) =
+    let whole : 64 ≡ begin + (64 - begin) = omega (arith, begun, low) in
+    let turned : 64 ≡ 64 - begin + begin = omega (arith, begun, low) in
+    ap (λ n. filter (is_on front) (below n)) whole
+    ∙ moved_so_far (is_on part) (is_on front) begin (64 - begin)
+    (λ lane l. false_from_ne_true (is_on front lane) (λ on. omega (arith, l, begun, from_first word fits lane (is.in_front lane on)))) (λ lane l. sym (lowered lane))
+    ∙ ap (map (λ lane. begin + lane)) (sym (ap (λ n. filter (is_on part) (below n)) turned
+    ∙ only_so_far (is_on part) (64 - begin) begin (λ lane l. lowered (64 - begin + lane) ∙ is.high (begin + (64 - begin + lane)) (omega (arith, few, begun, low))))) in
+    record {
+      parts = is.parts ∙ ap (λ ls. ls ++ set_lanes rest) moved;
+      some = lane_some part (t - begin) (omega arith) (lowered (t - begin) ∙ ap (is_on front) (let place : begin + (t - begin) ≡ t = omega (arith, begun) in place) ∙ is.low t here ∙ (first_lane word fits).on low);
+      in_part = λ lane on. (let at : is_on front (begin + lane) ≡ true = sym (lowered lane) ∙ on in
+          (elim (cases_lt lane width) [ inl l ↦ l | inr past ↦ absurd (both_ways _ (is.high (begin + lane) (omega (arith, past, end))) at) ], is.in_front (begin + lane) at));
+      in_rest = is.in_rest;
+      fits = is.fits;
+    }
 
 -- ---- neighbouring lanes
 
@@ -210,12 +178,10 @@ is_between begin end some few =
 -- the entries of a word's lanes are those of the first part, followed by those of the others
 pub part_entries : (n x word width i part rest : ℕ) (reason : Reason) → IsFirstPart word width i part rest → entries_in n x word reason ≡ entries_from (x * n + i * width) part reason ++ entries_in n x rest reason
 part_entries n x word width i part rest reason is =
+    let place : (lane : ℕ) → x * n + (i * width + lane) ≡ x * n + i * width + lane = λ lane. omega arith in
     let f = λ (lane : ℕ). as_entry (x * n + lane, reason) in
     ap (map f) is.parts ∙ map-append f (map (λ lane. i * width + lane) (set_lanes part)) (set_lanes rest)
     ∙ ap (λ L. L ++ entries_in n x rest reason) (map-map f (λ lane. i * width + lane) (set_lanes part) ∙ (λ j. map (λ (lane : ℕ). as_entry (place lane j, reason)) (set_lanes part)))
-  where
-    place : (lane : ℕ) → x * n + (i * width + lane) ≡ x * n + i * width + lane
-    place lane = omega arith
 
 pub fewer_lanes : (word width i part rest : ℕ) → IsFirstPart word width i part rest → length (set_lanes rest) < length (set_lanes word)
 fewer_lanes word width i part rest is =

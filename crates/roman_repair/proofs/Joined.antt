@@ -90,19 +90,17 @@ joined_lanes s seat can sizes =
 pub grown_part : (n m d states lanes x i word : ℕ) (reason : Reason) (L : List ℕ) → n ≡ m * states → lanes ≡ d * m → set_lanes word ≡ flat_map (λ lane. map (λ b. lane * states + b) (below states)) L →
     entries_in n (x * d + i) word reason ≡ flat_map (grown_numbers states) (map (λ lane. as_entry (x * lanes + i * m + lane, reason)) L)
 grown_part n m d states lanes x i word reason L whole parts spread =
+    let place : (lane b : ℕ) → (x * d + i) * n + (lane * states + b) ≡ (x * lanes + i * m + lane) * states + b = λ lane b.
+    let row : (x * d + i) * n ≡ (x * d + i) * (m * states) = ap (λ k. (x * d + i) * k) whole in
+    let first : x * lanes ≡ x * (d * m) = ap (λ k. x * k) parts in
+    let times : (x * lanes + i * m + lane) * states ≡ (x * (d * m) + i * m + lane) * states = ap (λ k. (k + i * m + lane) * states) first in
+    omega (arith, row, times) in
     ap (map (λ lane. as_entry ((x * d + i) * n + lane, reason))) spread
     ∙ map-flat_map (λ lane. as_entry ((x * d + i) * n + lane, reason)) (λ lane. map (λ b. lane * states + b) (below states)) L
     ∙ flat_map_same (λ lane. map (λ lane. as_entry ((x * d + i) * n + lane, reason)) (map (λ b. lane * states + b) (below states))) (λ lane. grown_numbers states (as_entry (x * lanes + i * m + lane, reason))) L (λ lane.
     map-map (λ lane. as_entry ((x * d + i) * n + lane, reason)) (λ b. lane * states + b) (below states)
     ∙ map_same_in (λ b. as_entry ((x * d + i) * n + (lane * states + b), reason)) (grown_number states (as_entry (x * lanes + i * m + lane, reason))) (below states) (λ b j. ap (λ p. as_entry (p, reason)) (place lane b)))
     ∙ sym (flat_map-map (grown_numbers states) (λ lane. as_entry (x * lanes + i * m + lane, reason)) L)
-  where
-    place : (lane b : ℕ) → (x * d + i) * n + (lane * states + b) ≡ (x * lanes + i * m + lane) * states + b
-    place lane b =
-        let row : (x * d + i) * n ≡ (x * d + i) * (m * states) = ap (λ k. (x * d + i) * k) whole in
-        let first : x * lanes ≡ x * (d * m) = ap (λ k. x * k) parts in
-        let times : (x * lanes + i * m + lane) * states ≡ (x * (d * m) + i * m + lane) * states = ap (λ k. (k + i * m + lane) * states) first in
-        omega (arith, row, times)
 
 pub positive : (m n : ℕ) → 0 < m * n → (0 < m) × (0 < n)
 positive zero n some = absurd (let none : zero * n ≡ 0 = omega arith in omega (arith, none, some))

@@ -52,10 +52,8 @@ entries_le A (x ∷ L) ok possible = omega (arith, entries_le A L ok (λ y i. po
 -- the candidates have at most the readings of the whole system
 pub candidates_readings : (A : Arena ℕ) (kept L : List (Entry ℕ)) → IsNumbered A → AreCandidates A kept L → readings_of_entries A L ≤ readings A
 candidates_readings A kept L ok are =
+    let in_nodes : (p : ℕ) → IsIn p (nodes_of L) → IsIn p A.nodes = λ p i.
+    let (x, j, e) = from_map (λ (x : Entry ℕ). x.node) p L i in
+    grind (arith, e, ok.nodes, (in_below (length A.nodes) x.node (are.nodes x j))) in
     let within : sum_by (readings_at A) (nodes_of L) ≤ readings A = readings_within A (nodes_of L) are.once (λ p i. in_nodes p i) in
     omega (arith, entries_le A L ok are.possible)
-  where
-    in_nodes : (p : ℕ) → IsIn p (nodes_of L) → IsIn p A.nodes
-    in_nodes p i =
-        let (x, j, e) = from_map (λ (x : Entry ℕ). x.node) p L i in
-        grind (arith, e, ok.nodes, (in_below (length A.nodes) x.node (are.nodes x j)))

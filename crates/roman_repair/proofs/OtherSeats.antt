@@ -52,6 +52,13 @@ carried_kept : (s t : Sys) (k m : ℕ) → CarriesOver s t k m → (before : Lis
     AreKept (without_seat (numbered t) k) kept (flat_map (grown_numbers m) L)
 carried_kept s t k m over before kept [] are carry order = tt
 carried_kept s t k m over before kept (x ∷ L) are carry order =
+    let B : Arena ℕ = without_seat (numbered t) k in
+    let next : (q b : ℕ) → b < m → IsTrue (is_among (numbered s) (x.node ∷ before) q) → IsTrue (is_listed (numbered t) (kept ++ grown_numbers m x) (q * m + b)) = λ q b h h_among. listed_append (numbered t) kept (grown_numbers m x) (q * m + b) ∙ elim (or_cases (q == x.node) (is_among (numbered s) before q) h_among) [
+      | inl here ↦ or_right (is_listed (numbered t) kept (q * m + b)) (is_listed (numbered t) (grown_numbers m x) (q * m + b))
+          (any_from (λ (y : Entry ℕ). q * m + b == y.node) (record { node = x.node * m + b; reason = x.reason }) (grown_numbers m x)
+          (in_map (λ b. record { node = x.node * m + b; reason = x.reason }) b (below m) (in_below m b h)) (eq-eqb (q * m + b) (x.node * m + b) (ap (λ i. i * m + b) (eqb-true q x.node here))))
+      | inr rest ↦ or_left (is_listed (numbered t) kept (q * m + b)) (is_listed (numbered t) (grown_numbers m x) (q * m + b)) (carry q b h rest)
+    ] in
     kept_append B kept (grown_numbers m x) (flat_map (grown_numbers m) L)
     (kept_all B kept (grown_numbers m x) (λ y i.
     let (b, j, e) = from_map (λ b. record { node = x.node * m + b; reason = x.reason }) y (below m) i in
@@ -59,17 +66,6 @@ carried_kept s t k m over before kept (x ∷ L) are carry order =
     subst (λ (z : Entry ℕ). IsTrue (is_justified B (is_listed B kept) z.node z.reason)) (sym e)
     (carried_justified s t k m over x.node b (are x (inl refl)) h (is_among (numbered s) before) (is_listed B kept) (λ q. carry q b h) x.reason order.1)))
     (carried_kept s t k m over (x.node ∷ before) (kept ++ grown_numbers m x) L (λ y i. are y (inr i)) next order.2)
-  where
-    B : Arena ℕ
-    B = without_seat (numbered t) k
-
-    next : (q b : ℕ) → b < m → IsTrue (is_among (numbered s) (x.node ∷ before) q) → IsTrue (is_listed (numbered t) (kept ++ grown_numbers m x) (q * m + b))
-    next q b h h_among = listed_append (numbered t) kept (grown_numbers m x) (q * m + b) ∙ elim (or_cases (q == x.node) (is_among (numbered s) before q) h_among) [
-      | inl here ↦ or_right (is_listed (numbered t) kept (q * m + b)) (is_listed (numbered t) (grown_numbers m x) (q * m + b))
-          (any_from (λ (y : Entry ℕ). q * m + b == y.node) (record { node = x.node * m + b; reason = x.reason }) (grown_numbers m x)
-          (in_map (λ b. record { node = x.node * m + b; reason = x.reason }) b (below m) (in_below m b h)) (eq-eqb (q * m + b) (x.node * m + b) (ap (λ i. i * m + b) (eqb-true q x.node here))))
-      | inr rest ↦ or_left (is_listed (numbered t) kept (q * m + b)) (is_listed (numbered t) (grown_numbers m x) (q * m + b)) (carry q b h rest)
-    ]
 
 -- each entry for which the list of a relation stands would be kept
 relation_kept : (joint : NamedSys) (old : Board) (t : Sys) (k m : ℕ) → IsNamedSys joint → IsRelation joint old → ((p : ℕ) → has_entry old.list p ≡ true → p < pairs_of old) → CarriesOver (system_of joint) t k m →
@@ -89,19 +85,18 @@ map_itself b h [] = refl
 map_itself b h (q ∷ qs) = λ i. sym (same_place q b h) i ∷ map_itself b h qs i
 
 pub thaw_carries : (s : Sys) (k : ℕ) → CarriesOver s (turned s k false) k 1
-thaw_carries s k = record {
-  fine = λ p b l h f. ap not (ap (λ i. is_fine t (pair_at (sizes_of t) i)) (same_place p b h) ∙ ap (λ n. is_fine t (pair_at n p)) (sizes-turned s k false) ∙ is_fine-turned s k false (pair_at (sizes_of s) p)) ∙ f;
-  allows = λ p b a l h f. ap (λ i. (numbered t).allows i a) (same_place p b h) ∙ number_allows-turned s k false p a ∙ f;
-  seat = λ j l ne. subst (λ n. j < n) (length-set_frozen s.seats k false) l;
-  outcomes = λ p b a j l h below_j ne.
-      ap (λ i. (numbered t).outcomes i a j) (same_place p b h)
-      ∙ ap (λ n. map (number n) (outcomes t (pair_at n p) a j)) (sizes-turned s k false)
-      ∙ ap (map (number (sizes_of s))) (outcomes-turned s k false (pair_at (sizes_of s) p) a j ne)
-      ∙ map_itself b h ((numbered s).outcomes p a j);
-}
-  where
-    t : Sys
-    t = turned s k false
+thaw_carries s k =
+    let t : Sys = turned s k false in
+    record {
+      fine = λ p b l h f. ap not (ap (λ i. is_fine t (pair_at (sizes_of t) i)) (same_place p b h) ∙ ap (λ n. is_fine t (pair_at n p)) (sizes-turned s k false) ∙ is_fine-turned s k false (pair_at (sizes_of s) p)) ∙ f;
+      allows = λ p b a l h f. ap (λ i. (numbered t).allows i a) (same_place p b h) ∙ number_allows-turned s k false p a ∙ f;
+      seat = λ j l ne. subst (λ n. j < n) (length-set_frozen s.seats k false) l;
+      outcomes = λ p b a j l h below_j ne.
+          ap (λ i. (numbered t).outcomes i a j) (same_place p b h)
+          ∙ ap (λ n. map (number n) (outcomes t (pair_at n p) a j)) (sizes-turned s k false)
+          ∙ ap (map (number (sizes_of s))) (outcomes-turned s k false (pair_at (sizes_of s) p) a j ne)
+          ∙ map_itself b h ((numbered s).outcomes p a j);
+    }
 
 -- ---- a join
 
@@ -123,33 +118,26 @@ outcomes_grown s seat p b a j long l =
     ∙ moved_named s (s.seats ++ seat ∷ []) p a j j (seat_next (slice_get s.seats j) (slice_index p.bs j) p.e a) (λ bs. bs ++ b ∷ []) (p.bs ++ b ∷ []) (λ c. set-append_left p.bs (b ∷ []) j c (omega (arith, l, long)))
 
 pub join_carries : (s : Sys) (seat : Seat) → IsSys s → CarriesOver s (with_last s seat) (length s.seats) seat.beh.states
-join_carries s seat ok = record {
-  fine = λ p b l h f. ap (λ q. not (is_fine t q)) (place p b l h) ∙ still_unfine (is_final s.target (pair_at n p).t) (all_final s.seats (pair_at n p).bs) (all_final t.seats ((pair_at n p).bs ++ b ∷ []))
-      (λ every. final_fewer s.seats seat (pair_at n p).bs b every (long p)) f;
-  allows = λ p b a l h f. possible-joined s seat p b (Act a) l h ∙ f;
-  seat = λ j l ne. (let total : length (s.seats ++ seat ∷ []) ≡ length s.seats + 1 = length_push s.seats seat in omega (arith, l, total, ne));
-  outcomes = λ p b a j l h below_j ne.
-      let inner : j < length s.seats = (let total : length (s.seats ++ seat ∷ []) ≡ length s.seats + 1 = length_push s.seats seat in omega (arith, below_j, total, ne)) in
-      ap (λ q. map (number (sizes_of t)) (outcomes t q a j)) (place p b l h)
-      ∙ ap (map (number (sizes_of t))) (outcomes_grown s seat (pair_at n p) b a j (long p) inner)
-      ∙ map-map (number (sizes_of t)) (λ q. grown q b) (outcomes s (pair_at n p) a j)
-      ∙ map_same_in (λ q. number (sizes_of t) (grown q b)) (λ q. number n q * seat.beh.states + b) (outcomes s (pair_at n p) a j)
-      (λ q i. ap (λ m. number m (grown q b)) (sizes-joined s seat) ∙ number-grown n q seat.beh.states b (IsPairOf-from s q (outcome_pair s (pair_at n p) a j q ok ((numbers_are_pairs s).pair p l) i)))
-      ∙ sym (map-map (λ q. q * seat.beh.states + b) (number n) (outcomes s (pair_at n p) a j));
-}
+join_carries s seat ok =
+    let t : Sys = with_last s seat in
+    let n : Sizes = sizes_of s in
+    let place : (p b : ℕ) → p < count n → b < seat.beh.states → pair_at (sizes_of t) (p * seat.beh.states + b) ≡ grown (pair_at n p) b = λ p b l h. ap (λ m. pair_at m (p * seat.beh.states + b)) (sizes-joined s seat) ∙ pair_at-grown n seat.beh.states p b l h in
+    let long : (p : ℕ) → length (pair_at n p).bs ≡ length s.seats = λ p. length-states_at n.seats (p % product_of n.seats) ∙ length-map s.seats (λ (x : Seat). x.beh.states) in
+    record {
+      fine = λ p b l h f. ap (λ q. not (is_fine t q)) (place p b l h) ∙ still_unfine (is_final s.target (pair_at n p).t) (all_final s.seats (pair_at n p).bs) (all_final t.seats ((pair_at n p).bs ++ b ∷ []))
+          (λ every. final_fewer s.seats seat (pair_at n p).bs b every (long p)) f;
+      allows = λ p b a l h f. possible-joined s seat p b (Act a) l h ∙ f;
+      seat = λ j l ne. (let total : length (s.seats ++ seat ∷ []) ≡ length s.seats + 1 = length_push s.seats seat in omega (arith, l, total, ne));
+      outcomes = λ p b a j l h below_j ne.
+          let inner : j < length s.seats = (let total : length (s.seats ++ seat ∷ []) ≡ length s.seats + 1 = length_push s.seats seat in omega (arith, below_j, total, ne)) in
+          ap (λ q. map (number (sizes_of t)) (outcomes t q a j)) (place p b l h)
+          ∙ ap (map (number (sizes_of t))) (outcomes_grown s seat (pair_at n p) b a j (long p) inner)
+          ∙ map-map (number (sizes_of t)) (λ q. grown q b) (outcomes s (pair_at n p) a j)
+          ∙ map_same_in (λ q. number (sizes_of t) (grown q b)) (λ q. number n q * seat.beh.states + b) (outcomes s (pair_at n p) a j)
+          (λ q i. ap (λ m. number m (grown q b)) (sizes-joined s seat) ∙ number-grown n q seat.beh.states b (IsPairOf-from s q (outcome_pair s (pair_at n p) a j q ok ((numbers_are_pairs s).pair p l) i)))
+          ∙ sym (map-map (λ q. q * seat.beh.states + b) (number n) (outcomes s (pair_at n p) a j));
+    }
   where
-    t : Sys
-    t = with_last s seat
-
-    n : Sizes
-    n = sizes_of s
-
-    place : (p b : ℕ) → p < count n → b < seat.beh.states → pair_at (sizes_of t) (p * seat.beh.states + b) ≡ grown (pair_at n p) b
-    place p b l h = ap (λ m. pair_at m (p * seat.beh.states + b)) (sizes-joined s seat) ∙ pair_at-grown n seat.beh.states p b l h
-
-    long : (p : ℕ) → length (pair_at n p).bs ≡ length s.seats
-    long p = length-states_at n.seats (p % product_of n.seats) ∙ length-map s.seats (λ (x : Seat). x.beh.states)
-
     still_unfine : (final all more : Bool) → (IsTrue more → IsTrue all) → IsTrue (not (not final || all)) → IsTrue (not (not final || more))
     still_unfine final all true fewer f = grind (arith, (fewer refl))
     still_unfine final all false fewer f = grind arith

@@ -15,6 +15,9 @@ use Rattle.roman_joint.specs.Rows.{lanes_in}
 use Rattle.roman_order.specs.Board.{Board, as_entry, pairs_of, nodes_of, set_lanes}
 use Rattle.roman_order.specs.Batches.{IsBatch, entries_at}
 use Rattle.roman_order.specs.declared.batch.Batch.{Batch}
+use Rattle.roman_relation.specs.declared.relation.Relation.{Relation}
+use Rattle.roman_repair.specs.Repairs.{Repairs}
+use Rattle.roman_repair.specs.declared.tally.Tally.{Tally}
 use Rattle.roman_repair.specs.declared.dying.renaming.Leaver.{Leaver}
 
 -- the entries in which seat k may leave its state behind, renamed
@@ -72,3 +75,7 @@ IsPartOf joint leaver first word = AreInPart (sizes_of (system_of joint)) leaver
 -- all entries of L were renamed and appended
 abbrev pub RenamesAll : NamedSys → Leaver → List (Entry ℕ) → Board → Board → Type 0
 RenamesAll joint leaver L old new = Renames (system_of joint) leaver.k L [] old.list new.list
+
+-- the second relation is the first one after the death of seat k and its repair, if the seat can die
+abbrev pub RepairsDeath : ℕ → Relation → Relation → Tally → Type 0
+RepairsDeath k old new tally = (seat : Seat) → CanDie old.joint k seat → Repairs (Die k seat) old new tally

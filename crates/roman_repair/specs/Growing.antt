@@ -16,7 +16,10 @@ use Rattle.roman_relation.specs.Greatest.{HasCaps}
 use Rattle.roman_relation.specs.declared.relation.Relation.{Relation}
 use Rattle.roman_repair.specs.Alone.{MayProbeAlone}
 use Rattle.roman_repair.specs.Replays.{AreCandidates, AreSlices, candidates, readings_of_entries, with_replay}
+use Rattle.roman_rules.specs.declared.rules.Rules.{Ghosts as RulesView}
+use Rattle.roman_repair.specs.Judging.{CanReplayBatch}
 use Rattle.roman_repair.specs.Repairs.{SettlesFrom}
+use Rattle.roman_repair.specs.declared.band_probe.BandProbe.{BandProbe}
 use Rattle.roman_repair.specs.declared.tally.Tally.{Tally}
 use Rattle.roman_repair.specs.declared.replaying.Newcomer.{Newcomer}
 
@@ -51,6 +54,11 @@ pub record HasReplayedAll (A : Arena ℕ) (L : List (Entry ℕ)) (old new : Boar
   pub list : new.list ≡ with_replay A old.list L
   pub rest : new ≡ record old { list = new.list; waiting = [] }
   pub cost : after ≤ before + readings_of_entries A L
+
+-- the entries for which a batch from before the newcomer stands can be replayed, and other entries after them
+pub record CanReplayGrown {J R : Type 0} (V : RulesView J R) (joint : J) (newcomer : Newcomer) (order : Board) (probe : BandProbe) (e : Batch) : Type 0 where
+  pub ready : CanReplayBatch (V.arena joint) (V.lanes joint) newcomer.lanes (entries_grown newcomer) order probe e
+  pub slices : AreSlices (V.lanes joint) newcomer.lanes newcomer.states
 
 -- the entries to which the list grows
 abbrev pub list_grown : Newcomer → Board → List (Entry ℕ)

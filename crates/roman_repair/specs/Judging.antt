@@ -53,7 +53,3 @@ CanReplayLanes J joint order probe e = let lanes = J.lanes joint in CanReplayBat
 -- all entries of L are replayed: a replay of L and any later entries goes on to one of the later entries
 abbrev pub ReplaysAll : {J R : Type 0} → RulesView J R → J → List (Entry ℕ) → Board → Board → BandProbe → BandProbe → ℕ → ℕ → Type 0
 ReplaysAll J joint L old new probe on before after = Replays (J.arena joint) (J.lanes joint) L [] old.list new.list probe on before after
-
--- only the list has changed
-abbrev pub SetsList : Board → Board → Type 0
-SetsList old new = new ≡ record old { list = new.list }

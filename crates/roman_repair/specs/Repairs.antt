@@ -1,12 +1,14 @@
 -- Repairs: the relation is complete for the changed system, and its list begins with the replay.
-use Rattle.std.specs.Prelude.{◌≡◌, ℕ, ◌+◌, ◌≤◌, List, [], map, length, take, drop, IsTrue, IsFalse}
+use Rattle.std.specs.Prelude.{◌≡◌, ℕ, ◌+◌, ◌<◌, ◌≤◌, IsFalse, List, [], map, length, take, drop}
+use Rattle.roman_model.specs.Lists.{IsIn}
 use Rattle.roman_model.specs.System.{Sys, Pair}
 use Rattle.roman_model.specs.Arena.{Entry, IsOrder, replay, fall, readings}
-use Rattle.roman_model.specs.SystemArena.{arena, is_ready}
-use Rattle.roman_model.specs.Change.{Change, rename, after}
+use Rattle.roman_model.specs.SystemArena.{arena}
+use Rattle.roman_model.specs.Change.{Change, Join, rename, after}
 use Rattle.roman_model.specs.Numbers.{entry_at}
-use Rattle.roman_joint.specs.NamedSys.{NamedSys, system_of}
-use Rattle.roman_joint.specs.Pairs.{arena_of, joint_seat}
+use Rattle.roman_joint.specs.NamedSys.{NamedSys, seat_of, system_of}
+use Rattle.roman_joint.specs.declared.seat.Seat.{Seat}
+use Rattle.roman_joint.specs.Pairs.{arena_of}
 use Rattle.roman_joint.specs.Rows.{lanes_in}
 use Rattle.roman_order.specs.Board.{Board}
 use Rattle.roman_relation.specs.Shaped.{IsShaped}
@@ -35,6 +37,20 @@ pub record IsRepaired (change : Change) (old_joint : NamedSys) (old : Board) (ne
 abbrev pub Repairs : Change → Relation → Relation → Tally → Type 0
 Repairs change old new tally = IsRepaired change old.joint old.order new.joint new.order tally
 
+-- the seat can join: it is ready, its name is new, and its behaviour is one of the catalogue
+pub record IsNewcomer (joint : NamedSys) (seat : Seat) : Type 0 where
+  pub behaviour : seat.behaviour < length joint.catalogue
+  pub name : IsIn seat.name (map (λ other. other.name) joint.seats) → ⊥
+  pub ready : IsFalse seat.frozen
+
+-- the change by which the seat joins
+abbrev pub joining : NamedSys → Seat → Change
+joining joint seat = Join (seat_of joint.catalogue seat)
+
+-- the second relation has these seats, and otherwise the parts of the first one's joint
+abbrev pub HasSeats : Relation → Relation → List Seat → Type 0
+HasSeats old new seats = new.joint ≡ record old.joint { seats = seats }
+
 -- a removal list of the joint's system, in an order that is shaped for it, has room and has no waiting entries
 pub record IsBegun (joint : NamedSys) (order : Board) : Type 0 where
   pub valid : IsOrder (arena_of joint) order.list
@@ -61,11 +77,3 @@ fall_of relation tally = fall (arena_of relation.joint) (drop tally.kept relatio
 -- the steps are at most the fall plus the number of delegations of an allowed action to a ready seat in the new system
 abbrev pub IsWithinReading : Relation → Tally → ℕ → ℕ → Type 0
 IsWithinReading relation tally before now = now ≤ before + (fall_of relation tally + readings (arena_of relation.joint))
-
--- the seat at place k takes delegations
-abbrev pub IsReadyAt : NamedSys → ℕ → Type 0
-IsReadyAt joint k = IsTrue (is_ready (joint_seat joint k))
-
--- the seat at place k is frozen, or there is none
-abbrev pub IsFrozenAt : NamedSys → ℕ → Type 0
-IsFrozenAt joint k = IsFalse (is_ready (joint_seat joint k))

@@ -1,10 +1,10 @@
 //! Bands of rows that are probed for a reason.
-ghost use Rattle.std.specs.Prelude.{◌≡◌, ℕ, ◌+◌, ◌*◌, ◌/◌, ◌<◌, ◌≤◌, Bool, not, length, None, Some, slice_index, IsTrue};
+ghost use Rattle.std.specs.Prelude.{◌≡◌, ℕ, ◌+◌, ◌*◌, ◌/◌, ◌<◌, Bool, not, length, None, Some, slice_index, IsTrue};
 ghost use Rattle.roman_model.specs.Arena.{Arena};
 ghost use Rattle.roman_lanes.specs.Rows.{is_on, AreRows};
 ghost use Rattle.roman_rules.specs.Probes.{IsReasonOf};
 ghost use Rattle.roman_repair.specs.Alone.{IsSeatOf, passes, probes_of};
-ghost use Rattle.roman_repair.specs.BandProbes.{HoldsInBand, IsKnown, CanProbe, HasProbed};
+ghost use Rattle.roman_repair.specs.BandProbes.{HoldsInBand, IsKnown, CanProbe, HasProbed, HasServed};
 ghost use Rattle.roman_repair.specs.Replays.{is_possible};
 
 use roman_io::Steps;
@@ -93,10 +93,7 @@ fn probe_row_alone<J: Rules, L: Ledger>(
     steps: &mut Steps<L>,
 ) -> u64
     requires { CanProbe (J.arena joint.now) (J.lanes joint.now) (Some k) words.now batch }
-    ensures served { (gone : ℕ → Bool) → AreRows (J.lanes joint.now) (λ q. not (gone q)) words.now →
-        (lane : ℕ) → lane < J.lanes joint.now →
-        is_on result lane
-        ≡ not (passes (J.arena joint.now) gone (Some k) (batch.row * J.lanes joint.now + lane) batch.reason) }
+    ensures served { HasServed J.Rules joint.now words.now k batch result }
     ensures cost { (p : ℕ) → steps.new ≡ steps.old + probes_of (J.arena joint.now) (Some k) p batch.reason }
 {
     match batch.reason {

@@ -1,7 +1,8 @@
 //! Replays batches. A batch has waiting entries of one row with one reason. An entry is kept if the
 //! entries kept before it justify it.
 ghost use Rattle.roman_order.specs.Batches.{entries_at};
-ghost use Rattle.roman_repair.specs.Judging.{CanReplayLanes, SetsList, HasJudgedFront, ReplaysAll};
+ghost use Rattle.roman_order.specs.Board.{ChangesOnlyList};
+ghost use Rattle.roman_repair.specs.Judging.{CanReplayLanes, HasJudgedFront, ReplaysAll};
 
 use crate::band_probe::BandProbe;
 use crate::lanes::first_alike;
@@ -56,7 +57,7 @@ pub(crate) fn keep_lanes<J: Rules, L: Ledger>(
     requires { CanReplayLanes J.Rules joint.now order.old probe.old batch }
     ensures replayed { ReplaysAll J.Rules joint.now (entries_at (J.lanes joint.now) batch)
         order.old order.new probe.old probe.new steps.old steps.new }
-    ensures rest { SetsList order.old order.new }
+    ensures rest { ChangesOnlyList order.old order.new }
 {
     let mut left = batch.lanes;
     'left: while left != 0 {

@@ -1,11 +1,9 @@
 //! Removes a service that dies.
-ghost use Rattle.std.specs.Prelude.{◌≡◌, ◌+◌, ◌<◌, ◌≤◌, length};
+ghost use Rattle.std.specs.Prelude.{◌+◌, ◌<◌, ◌≤◌, length};
 ghost use Rattle.std.specs.List.{remove};
-ghost use Rattle.roman_model.specs.System.{Seat};
-ghost use Rattle.roman_model.specs.Change.{Die};
 ghost use Rattle.roman_relation.specs.Greatest.{IsUpToDate};
-ghost use Rattle.roman_repair.specs.Deaths.{CanDie};
-ghost use Rattle.roman_repair.specs.Repairs.{fall_of, Repairs};
+ghost use Rattle.roman_repair.specs.Deaths.{RepairsDeath};
+ghost use Rattle.roman_repair.specs.Repairs.{fall_of, HasSeats};
 
 mod renaming;
 
@@ -26,9 +24,8 @@ use std::sync::ledger::Ledger;
 pub fn die<L: Ledger>(relation: &mut Relation, k: u8, steps: &mut Steps<L>) -> Tally
     requires relation { IsUpToDate relation.old }
     requires seat { k < length relation.old.joint.seats }
-    ensures joint { relation.new.joint ≡ record relation.old.joint { seats = remove relation.old.joint.seats k } }
-    ensures repaired { (seat : Seat) → CanDie relation.old.joint k seat →
-        Repairs (Die k seat) relation.old relation.new result }
+    ensures joint { HasSeats relation.old relation.new (remove relation.old.joint.seats k) }
+    ensures repaired { RepairsDeath k relation.old relation.new result }
     ensures cost { steps.new ≤ steps.old + fall_of relation.new result }
 {
     relation.joint.known(); // the system is well formed

@@ -3,7 +3,8 @@ ghost use Rattle.std.specs.Prelude.{◌≡◌, ◌+◌, ◌≤◌, length, true}
 ghost use Rattle.roman_model.specs.Change.{Freeze};
 ghost use Rattle.roman_joint.specs.Changes.{with_frozen};
 ghost use Rattle.roman_relation.specs.Greatest.{IsUpToDate};
-ghost use Rattle.roman_repair.specs.Repairs.{fall_of, IsReadyAt, Repairs};
+ghost use Rattle.roman_relation.specs.Seats.{IsReadyAt};
+ghost use Rattle.roman_repair.specs.Repairs.{fall_of, HasSeats, Repairs};
 
 use crate::settling::settle_on;
 use crate::tally::Tally;
@@ -19,8 +20,7 @@ use std::sync::ledger::Ledger;
 pub fn freeze<L: Ledger>(relation: &mut Relation, k: u8, steps: &mut Steps<L>) -> Tally
     requires relation { IsUpToDate relation.old }
     requires ready { IsReadyAt relation.old.joint k }
-    ensures joint { relation.new.joint
-        ≡ record relation.old.joint { seats = with_frozen relation.old.joint.seats k true } }
+    ensures joint { HasSeats relation.old relation.new (with_frozen relation.old.joint.seats k true) }
     ensures repaired { Repairs (Freeze k) relation.old relation.new result }
     ensures kept { result.kept ≡ length relation.old.order.list }
     ensures cost { steps.new ≤ steps.old + fall_of relation.new result }

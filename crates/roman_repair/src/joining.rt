@@ -1,11 +1,10 @@
 //! Joins a service.
-ghost use Rattle.std.specs.Prelude.{◌≡◌, ◌<◌, ◌++◌, ◌∷◌, [], ◌↔◌, length, map, Err, IfOk, OnOk, OnErr, IsFalse};
-ghost use Rattle.roman_model.specs.Lists.{IsIn};
-ghost use Rattle.roman_model.specs.Change.{Join, after};
+ghost use Rattle.std.specs.Prelude.{◌≡◌, ◌<◌, ◌++◌, ◌∷◌, [], ◌↔◌, length, Err, IfOk, OnOk, OnErr};
+ghost use Rattle.roman_model.specs.Change.{after};
 ghost use Rattle.roman_model.specs.declared.limits.TheConstants.{MAX_SERVICES};
 ghost use Rattle.roman_joint.specs.NamedSys.{seat_of, system_of, cells};
 ghost use Rattle.roman_relation.specs.Greatest.{IsUpToDate};
-ghost use Rattle.roman_repair.specs.Repairs.{IsWithinReading, Repairs};
+ghost use Rattle.roman_repair.specs.Repairs.{HasSeats, IsNewcomer, IsWithinReading, joining, Repairs};
 
 use crate::replaying::Newcomer;
 use crate::settling::replay_and_settle_on;
@@ -32,19 +31,14 @@ pub fn join<L: Ledger>(
     steps: &mut Steps<L>,
 ) -> Result<Tally, SeatError>
     requires relation { IsUpToDate relation.old }
-    requires behaviour { seat.behaviour < length relation.old.joint.catalogue }
-    requires name { IsIn seat.name (map (λ other. other.name) relation.old.joint.seats) → ⊥ }
-    requires ready { IsFalse seat.frozen }
-    ensures joint { OnOk result (relation.new.joint
-        ≡ record relation.old.joint { seats = relation.old.joint.seats ++ seat ∷ [] }) }
-    ensures repaired { IfOk result (λ tally. Repairs (Join
-        (seat_of relation.old.joint.catalogue seat)) relation.old relation.new tally) }
+    requires seat { IsNewcomer relation.old.joint seat }
+    ensures joint { OnOk result (HasSeats relation.old relation.new (relation.old.joint.seats ++ seat ∷ [])) }
+    ensures repaired { IfOk result (Repairs (joining relation.old.joint seat) relation.old relation.new) }
     ensures cost { IfOk result (λ tally. IsWithinReading relation.new tally steps.old steps.new) }
     ensures full { (result ≡ Err SeatError.Full) ↔ (length relation.old.joint.seats ≡ MAX_SERVICES) }
     ensures limit { (result ≡ Err SeatError.Limit)
         ↔ ((length relation.old.joint.seats < MAX_SERVICES) ×
-        (relation.old.joint.limit < cells (after (Join (seat_of relation.old.joint.catalogue seat))
-        (system_of relation.old.joint)))) }
+        (relation.old.joint.limit < cells (after (joining relation.old.joint seat) (system_of relation.old.joint)))) }
     ensures refused { OnErr result ((relation.new ≡ relation.old) × (steps.new ≡ steps.old)) }
 {
     relation.joint.known(); // the system is well formed

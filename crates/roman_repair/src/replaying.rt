@@ -1,7 +1,8 @@
 //! Replays the waiting entries, each for the pairs for which it stands.
-ghost use Rattle.roman_repair.specs.Judging.{CanReplayBatch, SetsList, ReplaysAll};
-ghost use Rattle.roman_repair.specs.Growing.{CanGrow, CanReplayAll, HasReplayedAll, IsGrown, entries_grown};
-ghost use Rattle.roman_repair.specs.Replays.{AreSlices, candidates};
+ghost use Rattle.roman_order.specs.Board.{ChangesOnlyList};
+ghost use Rattle.roman_repair.specs.Judging.{ReplaysAll};
+ghost use Rattle.roman_repair.specs.Growing.{CanGrow, CanReplayAll, CanReplayGrown, HasReplayedAll, IsGrown, entries_grown};
+ghost use Rattle.roman_repair.specs.Replays.{candidates};
 
 use crate::band_probe::BandProbe;
 use crate::batches::keep_lanes;
@@ -51,12 +52,10 @@ fn keep_grown<J: Rules, L: Ledger>(
     batch: Batch,
     steps: &mut Steps<L>,
 )
-    requires ready { CanReplayBatch (J.arena joint.now) (J.lanes joint.now) newcomer.lanes
-        (entries_grown newcomer) order.old probe.old batch }
-    requires slices { AreSlices (J.lanes joint.now) newcomer.lanes newcomer.states }
+    requires { CanReplayGrown J.Rules joint.now newcomer order.old probe.old batch }
     ensures replayed { ReplaysAll J.Rules joint.now (entries_grown newcomer batch)
         order.old order.new probe.old probe.new steps.old steps.new }
-    ensures rest { SetsList order.old order.new }
+    ensures rest { ChangesOnlyList order.old order.new }
 {
     joint.known(); // a pair's number fits in 32 bits, a row has 1 to 64 lanes
     if newcomer.states == 1 && newcomer.lanes == joint.lanes() {

@@ -1,9 +1,10 @@
 //! Thaws a service.
-ghost use Rattle.std.specs.Prelude.{◌≡◌, ◌<◌, length, false};
+ghost use Rattle.std.specs.Prelude.{◌<◌, length, false};
 ghost use Rattle.roman_model.specs.Change.{Thaw};
 ghost use Rattle.roman_joint.specs.Changes.{with_frozen};
 ghost use Rattle.roman_relation.specs.Greatest.{IsUpToDate};
-ghost use Rattle.roman_repair.specs.Repairs.{IsFrozenAt, IsWithinReading, Repairs};
+ghost use Rattle.roman_relation.specs.Seats.{IsFrozenAt};
+ghost use Rattle.roman_repair.specs.Repairs.{HasSeats, IsWithinReading, Repairs};
 
 use crate::replaying::Newcomer;
 use crate::settling::replay_and_settle_on;
@@ -23,8 +24,7 @@ pub fn thaw<L: Ledger>(relation: &mut Relation, k: u8, steps: &mut Steps<L>) -> 
     requires relation { IsUpToDate relation.old }
     requires place { k < length relation.old.joint.seats }
     requires frozen { IsFrozenAt relation.old.joint k }
-    ensures joint { relation.new.joint
-        ≡ record relation.old.joint { seats = with_frozen relation.old.joint.seats k false } }
+    ensures joint { HasSeats relation.old relation.new (with_frozen relation.old.joint.seats k false) }
     ensures repaired { Repairs (Thaw k) relation.old relation.new result }
     ensures cost { IsWithinReading relation.new result steps.old steps.new }
 {

@@ -8,15 +8,14 @@
 //! system has at most `kept` entries, and is part of the first `kept` entries of the new list.
 #![tactic(auto)]
 
-ghost use Rattle.std.specs.Prelude.{◌<◌, length, map, IfOk, IsFalse, IsTrue};
-ghost use Rattle.roman_model.specs.Change.{CanChange, Die, Freeze, Join, Thaw};
-ghost use Rattle.roman_model.specs.Lists.{IsIn};
+ghost use Rattle.std.specs.Prelude.{◌<◌, length, IfOk};
+ghost use Rattle.roman_model.specs.Change.{CanChange, Die, Freeze, Thaw};
 ghost use Rattle.roman_model.specs.System as model;
-ghost use Rattle.roman_model.specs.SystemArena.{is_ready};
-ghost use Rattle.roman_joint.specs.NamedSys.{seat_of, system_of};
+ghost use Rattle.roman_joint.specs.NamedSys.{system_of};
 ghost use Rattle.roman_relation.specs.Greatest.{IsUpToDate};
+ghost use Rattle.roman_relation.specs.Seats.{IsFrozenAt, IsReadyAt};
+ghost use Rattle.roman_repair.specs.Repairs.{IsNewcomer, joining};
 ghost use Rattle.roman_repair_laws.specs.Calls.{CallKeepsTheMost};
-ghost use Rattle.roman_joint.specs.Pairs.{joint_seat};
 
 use roman_io::Steps;
 use roman_joint::Seat;
@@ -32,8 +31,8 @@ pub fn freeze_keeps_the_most<L: Ledger>(
     steps: &mut Steps<L>,
 ) -> Tally
     requires relation { IsUpToDate relation.old }
-    requires ready { IsTrue (is_ready (joint_seat relation.old.joint k)) }
-    ensures kept { CallKeepsTheMost (Freeze k) relation.old.joint relation.old.order relation.new.order result }
+    requires ready { IsReadyAt relation.old.joint k }
+    ensures kept { CallKeepsTheMost (Freeze k) relation.old relation.new result }
 {
     repairs_keep_the_most();
     relation.joint.known(); // the system is well formed
@@ -44,8 +43,8 @@ pub fn freeze_keeps_the_most<L: Ledger>(
 pub fn thaw_keeps_the_most<L: Ledger>(relation: &mut Relation, k: u8, steps: &mut Steps<L>) -> Tally
     requires relation { IsUpToDate relation.old }
     requires place { k < length relation.old.joint.seats }
-    requires frozen { IsFalse (is_ready (joint_seat relation.old.joint k)) }
-    ensures kept { CallKeepsTheMost (Thaw k) relation.old.joint relation.old.order relation.new.order result }
+    requires frozen { IsFrozenAt relation.old.joint k }
+    ensures kept { CallKeepsTheMost (Thaw k) relation.old relation.new result }
 {
     repairs_keep_the_most();
     relation.joint.known(); // the system is well formed
@@ -61,11 +60,8 @@ pub fn join_keeps_the_most<L: Ledger>(
     steps: &mut Steps<L>,
 ) -> Result<Tally, JoinError>
     requires relation { IsUpToDate relation.old }
-    requires behaviour { seat.behaviour < length relation.old.joint.catalogue }
-    requires name { IsIn seat.name (map (λ other. other.name) relation.old.joint.seats) → ⊥ }
-    requires ready { IsFalse seat.frozen }
-    ensures kept { IfOk result (λ tally. CallKeepsTheMost (Join
-        (seat_of relation.old.joint.catalogue seat)) relation.old.joint relation.old.order relation.new.order tally) }
+    requires seat { IsNewcomer relation.old.joint seat }
+    ensures kept { IfOk result (CallKeepsTheMost (joining relation.old.joint seat) relation.old relation.new) }
 {
     repairs_keep_the_most();
     relation.joint.known(); // the system is well formed
@@ -79,7 +75,7 @@ pub fn die_keeps_the_most<L: Ledger>(relation: &mut Relation, k: u8, steps: &mut
     requires relation { IsUpToDate relation.old }
     requires seat { k < length relation.old.joint.seats }
     ensures kept { (seat : model.Seat) → CanChange (Die k seat) (system_of relation.old.joint) →
-        CallKeepsTheMost (Die k seat) relation.old.joint relation.old.order relation.new.order result }
+        CallKeepsTheMost (Die k seat) relation.old relation.new result }
 {
     repairs_keep_the_most();
     relation.joint.known(); // the system is well formed

@@ -55,3 +55,11 @@ IsRepeated parts p k = (0 < k) × AreAlike parts p (k - 1)
 pub record AreTrialsOf (base : NamedSys) (trials : Trials) : Type 0 where
   pub middle : IsIdleScratchOf base trials.middle
   pub scratch : IsIdleScratchOf base trials.scratch
+
+-- the row after row b has the outlooks of row b: those with an earlier seat at the same places, the last of them also at place b, and that of the seat alone one place further on; what comes before is unchanged
+pub record RepeatsRow (b : ℕ) (old new : List declared.Outlook) : Type 0 where
+  pub two : (k : ℕ) → k < b → told_at new (32 * b + 32 + k) ≡ told_at old (32 * b + k)
+  pub last : (k : ℕ) → k + 1 ≡ b → told_at new (32 * b + 32 + b) ≡ told_at old (32 * b + k)
+  pub alone : told_at new (32 * b + 33 + b) ≡ told_at old (32 * b + b)
+  pub before : (i : ℕ) → i < 32 * b + 32 → told_at new i ≡ told_at old i
+  pub room : length new ≡ length old

@@ -5,7 +5,7 @@ ghost use Rattle.roman_joint.specs.NamedSys.{NamedSys};
 ghost use Rattle.roman_relation.specs.Greatest.{IsUpToDate};
 ghost use Rattle.roman_whatif.specs.Left.{places, IsIdleScratchOf};
 ghost use Rattle.roman_whatif.specs.Told.{told};
-ghost use Rattle.roman_whatif.specs.Losses.{told_at, left_of, MayFail, AreTold, AreLosses, AreTrialsOf};
+ghost use Rattle.roman_whatif.specs.Losses.{told_at, left_of, MayFail, AreTold, AreLosses, AreTrialsOf, RepeatsRow};
 ghost use Rattle.roman_whatif.specs.Scenarios.{left_in, AreToldIn, AreTrialsIn, CanTry, HasPair, HasTried, IsLeftIn, IsScenario, IsToldIn};
 ghost use Rattle.roman_joint.specs.Pairs.{joint_pairs};
 
@@ -207,13 +207,7 @@ fn fill_row<L: Ledger>(
 fn repeat_row(table: &mut [Outlook], before: u8)
     requires some { (0 < before) × (before < 31) }
     requires room { 32 * before + 64 ≤ length table.old }
-    ensures two { (k : ℕ) → k < before → told_at table.new (32 * before + 32 + k) ≡ told_at table.old
-        (32 * before + k) }
-    ensures last { (k : ℕ) → k + 1 ≡ before → told_at table.new (32 * before + 32 + before) ≡ told_at table.old
-        (32 * before + k) }
-    ensures alone { told_at table.new (32 * before + 33 + before) ≡ told_at table.old (32 * before + before) }
-    ensures before { (i : ℕ) → i < 32 * before + 32 → told_at table.new i ≡ told_at table.old i }
-    ensures room { length table.new ≡ length table.old }
+    ensures { RepeatsRow before table.old table.new }
 {
     let count = before as usize;
     let from = PLACES * count;

@@ -1,8 +1,8 @@
 //! Marks on numbers. The callers mark bands or pairs.
-ghost use Rattle.std.specs.Prelude.{◌≡◌, ◌≢◌, ℕ, ◌+◌, ◌/◌, ◌<◌, ◌≤◌, true, false, nat_lt, length, IfSome, IfNone};
+ghost use Rattle.std.specs.Prelude.{◌≡◌, ℕ, ◌+◌, ◌/◌, ◌<◌, ◌≤◌, true, false, nat_lt, length, IfSome, IfNone};
 ghost use Rattle.std.specs.Borrow.{sem};
 ghost use Rattle.roman_lanes.specs.Flags.{SameFlagsBut};
-ghost use Rattle.roman_order.specs.Board.{ChangesOnlyMarks, pairs_of, is_marked};
+ghost use Rattle.roman_order.specs.Board.{ChangesOnlyMarks, NoneMarkedBelow, TakesMark, pairs_of, is_marked};
 ghost use Rattle.roman_order.specs.Lending.{LendsMarks};
 
 use super::{Order, refill};
@@ -50,10 +50,8 @@ impl Order {
     #[tactic(auto, using(crate::proofs::Words::flag_off))]
     pub fn next_marked(&mut self, end: u32) -> Option<u32>
         requires { end ≤ pairs_of self.old }
-        ensures none { IfNone result ((p : ℕ) → p < end → is_marked self.old p ≡ false) }
-        ensures some { IfSome result (λ p. is_marked self.old p ≡ true) }
-        ensures taken { IfSome result (λ p. is_marked self.new p ≡ false) }
-        ensures others { (q : ℕ) → IfSome result (λ p. q ≢ p → is_marked self.new q ≡ is_marked self.old q) }
+        ensures none { IfNone result (NoneMarkedBelow self.old end) }
+        ensures taken { IfSome result (TakesMark self.old self.new) }
         ensures same { IfNone result (self.new ≡ self.old) }
         ensures long { length self.new.marks ≡ length self.old.marks }
         ensures rest { ChangesOnlyMarks self.old self.new }

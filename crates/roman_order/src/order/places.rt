@@ -1,11 +1,11 @@
 //! The places of pairs in the list.
-ghost use Rattle.std.specs.Prelude.{◌≡◌, ℕ, ◌+◌, ◌-◌, ◌*◌, ◌^◌, ◌<◌, ◌≤◌, ◌==◌, ◌&&◌, true, length, map, slice_index};
+ghost use Rattle.std.specs.Prelude.{◌≡◌, ℕ, ◌+◌, ◌-◌, ◌*◌, ◌^◌, ◌<◌, ◌≤◌, ◌==◌, ◌&&◌, length, map, slice_index};
 ghost use Rattle.std.specs.List.{AllByRecursion, IsDistinct, filter};
 ghost use Rattle.roman_model.specs.Lists.{below};
 ghost use Rattle.roman_lanes.specs.Rows.{is_on};
 ghost use Rattle.roman_order.specs.Board.{pairs_of, set_lanes, nodes_of, place_in_list};
 ghost use Rattle.roman_order.specs.Batches.{HasRowsBelow, IsBatch, entries_of};
-ghost use Rattle.roman_order.specs.Sound.{AreStamps, with_stamps};
+ghost use Rattle.roman_order.specs.Sound.{AreStamps, CanWriteStamps, with_stamps};
 
 use super::reading::batch_in;
 use super::{Order, refill};
@@ -102,9 +102,7 @@ fn write_stamps(stamps: &mut [u32], batches: &[Batch], lanes: u32)
 /// Writes the places of a batch's entries, from `place` on, and returns the next place.
 #[tactic(auto, using(crate::proofs::Lanes::lane_rules))]
 fn write_batch(stamps: &mut [u32], first: u32, word: u64, place: u32) -> u32
-    requires within { (lane : ℕ) → is_on word lane ≡ true → first + lane < length stamps.old }
-    requires few { length stamps.old < 2 ^ 32 }
-    requires fits { place + length (set_lanes word) < 2 ^ 32 }
+    requires { CanWriteStamps stamps.old first word place }
     ensures stamped { stamps.new ≡ with_stamps place (map (λ lane. first + lane) (set_lanes word)) stamps.old }
     ensures long { length stamps.new ≡ length stamps.old }
     ensures next { result ≡ place + length (set_lanes word) }

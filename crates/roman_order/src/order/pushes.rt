@@ -1,7 +1,7 @@
 //! Adds entries to the list.
 ghost use Rattle.std.specs.Prelude.{◌≡◌, ◌≢◌, ℕ, ◌+◌, ◌*◌, ◌<◌, ◌≤◌, true, false, List, [], ◌∷◌, ◌++◌, length, slice_index};
 ghost use Rattle.roman_lanes.specs.Tables.{HasRoom, SameRoom};
-ghost use Rattle.roman_order.specs.Board.{HasLanesOf, pairs_of, as_entry, set_lanes, entries_in_rows, has_entry, with_row, AreAliveAt};
+ghost use Rattle.roman_order.specs.Board.{HasLanesOf, pairs_of, as_entry, set_lanes, with_rows, has_entry, with_row, AreAliveAt};
 ghost use Rattle.roman_order.specs.Batches.{IsBatch, TakesLanes, entries_at, entries_of};
 ghost use Rattle.roman_order.specs.Sound.{AreCounted, places_of};
 ghost use Rattle.roman_order.specs.declared.batch.Batch.{Batch};
@@ -92,11 +92,7 @@ impl Order {
         requires rows { x + length lost.now ≤ self.old.rows }
         requires within { (i : ℕ) → HasLanesOf self.old (slice_index lost.now i) }
         requires alive { (i : ℕ) → AreAliveAt self.old.list self.old.lanes (x + i) (slice_index lost.now i) }
-        ensures { self.new
-            ≡ record self.old {
-              list = self.old.list ++ entries_in_rows self.old.lanes x
-                  (length lost.now) lost.now reason;
-            } }
+        ensures { self.new ≡ with_rows self.old x lost.now reason }
     {
         prove!(x as usize + lost.len() <= self.rows as usize);
         for i in 0..lost.len() {

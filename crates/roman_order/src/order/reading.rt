@@ -1,11 +1,11 @@
 //! Reads the list by places.
-ghost use Rattle.std.specs.Prelude.{◌≡◌, ℕ, ◌+◌, ◌-◌, ◌^◌, ◌<◌, ◌≤◌, true, false, ◌∷◌, length, take, drop, slice_get, slice_index, slice_index_or, Some};
+ghost use Rattle.std.specs.Prelude.{◌≡◌, ℕ, ◌+◌, ◌-◌, ◌^◌, ◌<◌, ◌≤◌, true, false, ◌∷◌, length, take, drop, slice_get, slice_index_or, Some};
 ghost use Rattle.std.specs.List.{AllByRecursion};
 ghost use Rattle.roman_lanes.specs.Rows.{is_on};
 ghost use Rattle.roman_model.specs.Lists.{IsIn};
 ghost use Rattle.roman_order.specs.Board.{as_entry, set_lanes};
 ghost use Rattle.roman_order.specs.Batches.{HasBatchAt, HasRowsBelow, IsApart, IsBatch, entries_of};
-ghost use Rattle.roman_order.specs.Sound.{places_of};
+ghost use Rattle.roman_order.specs.Sound.{IsLastFrom, batch_start, places_of};
 ghost use Rattle.roman_order.specs.ReadAhead.{AreUnkept, IsBatchOf};
 ghost use Rattle.roman_order.specs.declared.batch.Batch.{Batch};
 
@@ -84,13 +84,9 @@ impl Order {
 fn place_of(firsts: &[u32], many: usize, i: u32, near: usize) -> (usize, u32)
     requires some { 0 < many }
     requires few { (length firsts.now ≤ many) × (many < 2 ^ 32) }
-    requires start { slice_index (places_of many firsts.now) 0 ≤ i }
-    requires rising { (j : ℕ) → j + 1 < many → slice_index (places_of many firsts.now) j < slice_index
-        (places_of many firsts.now) (j + 1) }
-    ensures within { result.0 < many }
-    ensures first { result.1 ≡ slice_index (places_of many firsts.now) result.0 }
-    ensures from { result.1 ≤ i }
-    ensures to { result.0 + 1 < many → i < slice_index (places_of many firsts.now) (result.0 + 1) }
+    requires start { batch_start many firsts.now 0 ≤ i }
+    requires rising { (j : ℕ) → j + 1 < many → batch_start many firsts.now j < batch_start many firsts.now (j + 1) }
+    ensures { IsLastFrom many firsts.now i result.0 result.1 }
 {
     if near < many && first_in(firsts, many, near) == i {
         return (near, i);
@@ -115,7 +111,7 @@ fn place_of(firsts: &[u32], many: usize, i: u32, near: usize) -> (usize, u32)
 fn first_in(firsts: &[u32], many: usize, j: usize) -> u32
     requires few { (length firsts.now ≤ many) × (many < 2 ^ 32) }
     requires within { j < many }
-    ensures { result ≡ slice_index (places_of many firsts.now) j }
+    ensures { result ≡ batch_start many firsts.now j }
 {
     let alone = many - firsts.len();
     if j < alone {

@@ -2,7 +2,7 @@
 ghost use Rattle.std.specs.Prelude.{◌≡◌, ℕ, ◌+◌, ◌*◌, ◌/◌, ◌<◌, ◌≤◌, Bool, true, false, IsTrue, length};
 ghost use Rattle.roman_lanes.specs.Rows.{is_on};
 ghost use Rattle.roman_order.specs.Board.{ChangesOnlyList, is_marked};
-ghost use Rattle.roman_relation.specs.Shaped.{IsShaped};
+ghost use Rattle.roman_relation.specs.Shaped.{HasShapeOf};
 ghost use Rattle.roman_relation.specs.Rounds.{AddsLost, AddsTo, HasKept, IsJudged, falls};
 
 use super::listing::{are_listed, band_start, push_lost};
@@ -12,7 +12,7 @@ use roman_rules::{BAND, Rules, copy_rows};
 
 /// Judges the marked bands, and clears their marks.
 pub(crate) fn judge_marked<J: Rules>(joint: &J, order: &mut Order)
-    requires shaped { IsShaped (J.arena joint.now) (J.lanes joint.now) order.old }
+    requires shaped { HasShapeOf J.Rules joint.now order.old }
     requires kept { (gone : ℕ → Bool) × HasKept (J.lanes joint.now) gone order.old }
     ensures rest { order.new ≡ record order.old { list = order.new.list; marks = order.new.marks } }
     ensures unmarked { let A = J.arena joint.now in
@@ -37,7 +37,7 @@ pub(crate) fn judge_marked<J: Rules>(joint: &J, order: &mut Order)
 /// for removal, with the least such action.
 #[tactic(auto, using(crate::proofs::Bands::band_begins))]
 fn judge<J: Rules>(joint: &J, order: &mut Order, y: u32, is_band: bool, left: &mut [u64])
-    requires shaped { IsShaped (J.arena joint.now) (J.lanes joint.now) order.old }
+    requires shaped { HasShapeOf J.Rules joint.now order.old }
     requires kept { (gone : ℕ → Bool) × HasKept (J.lanes joint.now) gone order.old }
     requires left { length left.old ≡ J.band joint.now }
     requires band { is_band ≡ true → y * J.band joint.now + J.band joint.now ≤ order.old.rows }
@@ -81,7 +81,7 @@ fn is_in(actions: u32, a: u8) -> bool
 
 /// Judges the band whose first row is `x` for the action `a`: lists the pairs that it loses for it.
 fn judge_on<J: Rules>(joint: &J, order: &mut Order, row: &J::Row, x: u32, a: u8, left: &mut [u64])
-    requires shaped { IsShaped (J.arena joint.now) (J.lanes joint.now) order.old }
+    requires shaped { HasShapeOf J.Rules joint.now order.old }
     requires kept { (gone : ℕ → Bool) × HasKept (J.lanes joint.now) gone order.old }
     requires first { (y : ℕ) × (x ≡ y * J.band joint.now) }
     requires band { x + J.band joint.now ≤ order.old.rows }

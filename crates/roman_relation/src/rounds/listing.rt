@@ -2,7 +2,7 @@
 ghost use Rattle.std.specs.Prelude.{◌≡◌, ℕ, ◌+◌, ◌*◌, ◌≤◌, true, Bool, IsTrue, length};
 ghost use Rattle.roman_model.specs.Arena.{is_listed};
 ghost use Rattle.roman_order.specs.Board.{ChangesOnlyList};
-ghost use Rattle.roman_relation.specs.Shaped.{InRows, IsShaped};
+ghost use Rattle.roman_relation.specs.Shaped.{InRows, HasShapeOf};
 ghost use Rattle.roman_relation.specs.Rounds.{AddsLost, AreLostRows};
 
 use roman_model::Reason;
@@ -11,7 +11,7 @@ use roman_rules::{Rules, are_clear};
 
 /// Returns the first row of the band `y`.
 pub(crate) fn band_start<J: Rules>(joint: &J, order: &Order, y: u32) -> u32
-    requires shaped { IsShaped (J.arena joint.now) (J.lanes joint.now) order.now }
+    requires shaped { HasShapeOf J.Rules joint.now order.now }
     requires band { y * J.band joint.now + J.band joint.now ≤ order.now.rows }
     ensures { result ≡ y * J.band joint.now }
 {
@@ -22,7 +22,7 @@ pub(crate) fn band_start<J: Rules>(joint: &J, order: &Order, y: u32) -> u32
 
 /// Returns true only if all pairs of the band whose first row is `x` are listed.
 pub(crate) fn are_listed<J: Rules>(joint: &J, order: &Order, x: u32) -> bool
-    requires shaped { IsShaped (J.arena joint.now) (J.lanes joint.now) order.now }
+    requires shaped { HasShapeOf J.Rules joint.now order.now }
     requires band { x + J.band joint.now ≤ order.now.rows }
     ensures { result ≡ true → InRows (J.lanes joint.now) x (J.band joint.now)
         (λ p. IsTrue (is_listed (J.arena joint.now) order.now.list p)) }
@@ -41,7 +41,7 @@ pub(crate) fn push_lost<J: Rules>(
     lost: &[u64],
     reason: Reason,
 )
-    requires shaped { IsShaped (J.arena joint.now) (J.lanes joint.now) order.old }
+    requires shaped { HasShapeOf J.Rules joint.now order.old }
     requires band { x + J.band joint.now ≤ order.old.rows }
     requires long { length lost.now ≡ J.band joint.now }
     requires lost { (gone : ℕ → Bool) × AreLostRows (J.arena joint.now) gone order.old.list (J.lanes joint.now) x

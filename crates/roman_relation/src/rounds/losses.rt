@@ -1,13 +1,12 @@
 //! Marks the bands that lead to the pairs that a round has listed.
-ghost use Rattle.std.specs.Prelude.{◌≡◌, ◌≢◌, ℕ, ◌+◌, ◌*◌, ◌/◌, ◌<◌, ◌≤◌, Bool, true, false};
-ghost use Rattle.std.specs.Prelude.{length, take, drop, IsTrue, IsFalse};
+ghost use Rattle.std.specs.Prelude.{◌≡◌, ◌≢◌, ℕ, ◌+◌, ◌*◌, ◌/◌, ◌<◌, ◌≤◌, Bool, true, false, length, take, drop, IsTrue, IsFalse};
 ghost use Rattle.roman_lanes.specs.Rows.{is_on};
 ghost use Rattle.roman_model.specs.Arena.{is_listed, fall};
 ghost use Rattle.roman_model.specs.Lists.{IsIn};
 ghost use Rattle.roman_order.specs.Board.{is_marked};
 ghost use Rattle.roman_order.specs.Batches.{IsBatch, entries_at};
 ghost use Rattle.roman_order.specs.ReadAhead.{AreUnkept};
-ghost use Rattle.roman_relation.specs.Shaped.{IsShaped};
+ghost use Rattle.roman_relation.specs.Shaped.{HasShapeOf};
 ghost use Rattle.roman_relation.specs.Rounds.{AreUnlisted, AreNoted, moves_noted, moves_to_all};
 
 use roman_io::Steps;
@@ -25,7 +24,7 @@ pub(crate) fn mark_losses<J: Rules, L: Ledger>(
     near: usize,
     steps: &mut Steps<L>,
 )
-    requires shaped { IsShaped (J.arena joint.now) (J.lanes joint.now) order.old }
+    requires shaped { HasShapeOf J.Rules joint.now order.old }
     requires begun { start ≤ length order.old.list }
     requires kept { AreUnlisted (J.arena joint.now) (J.lanes joint.now) (take start order.old.list) order.old.before }
     ensures kept { AreUnlisted (J.arena joint.now) (J.lanes joint.now) order.new.list order.new.before }
@@ -69,7 +68,7 @@ fn next_loss<J: Rules>(joint: &J, order: &Order, i: u32, near: usize) -> (u32, u
 /// Marks the bands that lead to the band of a batch, and stores the words of the batch's band as
 /// kept words. Does nothing if the kept word of the batch's row has none of the batch's lanes.
 fn mark_batch<J: Rules, L: Ledger>(joint: &J, order: &mut Order, batch: Batch, steps: &mut Steps<L>)
-    requires shaped { IsShaped (J.arena joint.now) (J.lanes joint.now) order.old }
+    requires shaped { HasShapeOf J.Rules joint.now order.old }
     requires row { batch.row < order.old.rows }
     requires batch { IsBatch (J.lanes joint.now) batch }
     requires listed { (lane : ℕ) → is_on batch.lanes lane ≡ true →

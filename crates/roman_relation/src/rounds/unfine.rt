@@ -1,7 +1,7 @@
 //! Lists the pairs that don't meet clause 2.
 ghost use Rattle.std.specs.Prelude.{◌≡◌, ℕ, ◌+◌, ◌*◌, ◌<◌, ◌≤◌, length};
 ghost use Rattle.roman_model.specs.Arena.{IsOrder};
-ghost use Rattle.roman_relation.specs.Shaped.{InRows, IsShaped};
+ghost use Rattle.roman_relation.specs.Shaped.{InRows, HasShapeOf, IsOrderFor};
 ghost use Rattle.roman_relation.specs.Settled.{AddsUnfine, IsFineOrListed, SettlesOn};
 
 use super::listing::{are_listed, band_start, push_lost};
@@ -11,8 +11,7 @@ use roman_rules::{BAND, Rules, copy_rows};
 
 /// Lists the pairs that aren't listed and don't meet clause 2.
 pub(crate) fn list_unfine<J: Rules>(joint: &J, order: &mut Order)
-    requires shaped { IsShaped (J.arena joint.now) (J.lanes joint.now) order.old }
-    requires valid { IsOrder (J.arena joint.now) order.old.list }
+    requires { IsOrderFor J.Rules joint.now order.old }
     ensures goes_on { SettlesOn (J.arena joint.now) order.old order.new }
     ensures fine { let A = J.arena joint.now in (p : ℕ) → p < length A.nodes → IsFineOrListed A order.new.list p }
     ensures because { AddsUnfine (J.arena joint.now) order.old.list order.new.list }
@@ -29,7 +28,7 @@ pub(crate) fn list_unfine<J: Rules>(joint: &J, order: &mut Order)
 /// Lists the pairs of the band `y` that aren't listed and don't meet clause 2.
 #[tactic(auto, using(crate::proofs::Bands::band_begins))]
 fn list_unfine_band<J: Rules>(joint: &J, order: &mut Order, y: u32, resting: u64, left: &mut [u64])
-    requires shaped { IsShaped (J.arena joint.now) (J.lanes joint.now) order.old }
+    requires shaped { HasShapeOf J.Rules joint.now order.old }
     requires band { y * J.band joint.now + J.band joint.now ≤ order.old.rows }
     requires resting { J.is_resting joint.now resting }
     requires left { length left.old ≡ J.band joint.now }

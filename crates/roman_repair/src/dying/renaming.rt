@@ -6,10 +6,9 @@ ghost use Rattle.roman_model.specs.Numbers.{sizes_of, count};
 ghost use Rattle.roman_model.specs.NumberedChange.{rename_numbers};
 ghost use Rattle.roman_radix.specs.Rows.{lanes_of};
 ghost use Rattle.roman_joint.specs.NamedSys.{system_of};
-ghost use Rattle.roman_order.specs.Board.{pairs_of};
+ghost use Rattle.roman_order.specs.Board.{ChangesOnlyList, pairs_of};
 ghost use Rattle.roman_order.specs.Batches.{entries_at};
 ghost use Rattle.roman_relation.specs.Greatest.{IsShapedFor, row_lanes};
-ghost use Rattle.roman_repair.specs.Judging.{SetsList};
 ghost use Rattle.roman_repair.specs.Deaths.{IsPartOf, CanDie, CanRename, IsPart, IsWithin, RenamesAll, entries_from, sizes_left};
 ghost use Rattle.roman_joint.specs.Pairs.{joint_pairs, joint_pair};
 
@@ -72,7 +71,7 @@ fn rename_part(
     requires ready { CanRename joint.now leaver order.old }
     requires part { IsPartOf joint.now leaver first word }
     ensures list { RenamesAll joint.now leaver (entries_from first word reason) order.old order.new }
-    ensures rest { SetsList order.old order.new }
+    ensures rest { ChangesOnlyList order.old order.new }
 {
     order.known(); // a row has 1 to 64 lanes
     if !may_go(joint, leaver.k, first) {
@@ -91,7 +90,7 @@ fn rename_row(joint: &Joint, order: &mut Order, leaver: Leaver, batch: Batch)
     requires ready { CanRename joint.now leaver order.old }
     requires within { IsWithin (system_of joint.now) batch }
     ensures list { RenamesAll joint.now leaver (entries_at (row_lanes joint.now) batch) order.old order.new }
-    ensures rest { SetsList order.old order.new }
+    ensures rest { ChangesOnlyList order.old order.new }
 {
     let shape = joint.shape();
     shape.known(); // no size is 0, a pair's number fits in 32 bits

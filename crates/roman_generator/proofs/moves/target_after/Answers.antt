@@ -1,4 +1,4 @@
-use Rattle.roman_generator.proofs.Common.{◌≡◌, ◌<◌, List, ℕ, [], ◌∷◌, MatchOption, sym, ap, ◌∙◌, subst, arith, Beh, Pair, has, env_next, beh_next, from_allowed, NamedEnv, NamedTarget, system_of, IsBefore, behaves, seat_within}
+use Rattle.roman_generator.proofs.Common.{◌≡◌, ◌<◌, List, ℕ, [], ◌∷◌, MatchOption, sym, ap, ◌∙◌, subst, arith, rules, Beh, Pair, has, env_next, beh_next, from_allowed, NamedEnv, NamedTarget, system_of, IsBefore, behaves, seat_within}
 use Rattle.roman_generator.proofs.MoveLemmas.{ready_seat, env_stays, seat_stays, can_move, target_goes, target_there, allowed_within, state_of_seat}
 use Rattle.roman_generator.proofs.moves.target_after.Goals as goal
 
@@ -36,19 +36,19 @@ step-requires c =
       action = omega (arith, within.2, c.known.ensures.target.1, ap (λ (t : NamedTarget). t.actions) c.target.ensures);
     }
 
-pub returns-then-not-holds-clause-none : goal.returns-then-not-holds-clause-none
-returns-then-not-holds-clause-none c =
+pub returns-then-not-holds : goal.returns-then-not-holds
+returns-then-not-holds c =
     let x = c.args.observation in
     let has_env = c.holds.ensures ∙ ap (λ (xs : List ℕ). has xs x.env) (c.next.ensures.next ∙ ap (λ (env : NamedEnv). env_next env.env c.args.e x.action) c.environment.ensures) in
-    λ p. env_stays (system_of c.args.joint.now) c.args.t c.args.e c.args.b x p c.known.ensures.system (sym has_env ∙ c.if-not-holds.true)
+    record { moves = search rules; none = λ p. env_stays (system_of c.args.joint.now) c.args.t c.args.e c.args.b x p c.known.ensures.system (sym has_env ∙ c.if-not-holds.true) }
 
-pub returns-then-not-holds-2-clause-none : goal.returns-then-not-holds-2-clause-none
-returns-then-not-holds-2-clause-none c =
+pub returns-then-not-holds-2 : goal.returns-then-not-holds-2
+returns-then-not-holds-2 c =
     let n = c.args.joint.now in
     let x = c.args.observation in
     let of = behaves n x.seat c.behaviour-behaviour.result.now c.known.ensures c.behaviour-behaviour.ensures in
     let has_state = c.holds-2.ensures ∙ ap (λ (xs : List ℕ). has xs x.state) (c.out.ensures.next ∙ ap (λ (beh : Beh). beh_next beh c.args.b c.args.e x.action) (sym of.is)) in
-    λ p. seat_stays (system_of n) c.args.t c.args.e c.args.b x p of.seat c.known.ensures.system of.seated (sym has_state ∙ c.if-not-holds-2.true)
+    record { moves = search rules; none = λ p. seat_stays (system_of n) c.args.t c.args.e c.args.b x p of.seat c.known.ensures.system of.seated (sym has_state ∙ c.if-not-holds-2.true) }
 
 pub returns : goal.returns
 returns c =

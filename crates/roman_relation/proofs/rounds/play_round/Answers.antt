@@ -8,11 +8,9 @@ served_next : (A : Arena ℕ) → IsNumbered A → (lanes band : ℕ) (L : List 
     ((p : ℕ) → p < length A.nodes → IsJudged A (is_listed A L) d.list p) →
     (p a : ℕ) → p < length A.nodes → is_marked d (p / lanes / band) ≡ false → IsFalse (is_listed A d.list p) → IsFalse (is_justified A (is_listed A d.list) p (Act a))
 served_next A ok lanes band L d begins marked done p a l certain off =
+    let same : (k q : ℕ) → IsIn q (A.outcomes p a k) → is_listed A L q ≡ is_listed A d.list q = λ k q i. same_test (is_listed A L q) (is_listed A d.list q) (begins_listed A L d.list q begins)
+    (λ t. by_test (is_listed A L q) (λ u. u) (λ f. absurd (both_ways (is_marked d (p / lanes / band)) certain (marked p q a k l i t f)))) in
     sym (justified_same (record A { outcomes = λ q b k. A.outcomes q a k }) (is_listed A L) (is_listed A d.list) p (Act a) (λ b k q i. same k q i)) ∙ done p l off a
-  where
-    same : (k q : ℕ) → IsIn q (A.outcomes p a k) → is_listed A L q ≡ is_listed A d.list q
-    same k q i = same_test (is_listed A L q) (is_listed A d.list q) (begins_listed A L d.list q begins)
-        (λ t. by_test (is_listed A L q) (λ u. u) (λ f. absurd (both_ways (is_marked d (p / lanes / band)) certain (marked p q a k l i t f))))
 
 -- a round on a list of the pairs that are lost within n requests makes a list of those within one more
 lost_more : (A : Arena ℕ) → IsNumbered A → (May : ℕ → Type 0) (n : ℕ) (L M : List (Entry ℕ)) → AddsTo A (is_listed A L) (λ p. IsTrue (falls A (is_listed A L) p) × May p) L M →

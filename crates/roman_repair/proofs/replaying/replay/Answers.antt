@@ -13,14 +13,17 @@ replay-init g c = record {
   rest = refl;
 }
 
-pub keep_grown-requires-clause-ready : goal.keep_grown-requires-clause-ready
-keep_grown-requires-clause-ready g c =
+pub keep_grown-requires : goal.keep_grown-requires
+keep_grown-requires g c =
     let next = c.next_waiting_batch.new.self in
     let wide = ap (λ (b : Board). b.waiting_lanes) c.replay.invariant.rest ∙ c.requires.lanes in
     record {
-      shaped = grind arith;
-      batch = subst (λ m. IsBatch m c.in-Some.batch) wide c.in-Some.ensures.batch;
-      ready = (candidates c.args.newcomer.states next, next_ready _ _ c.args.newcomer c.replay.order next _ c.in-Some.batch wide c.in-Some.ensures.first c.next_waiting_batch.ensures.rest c.replay.invariant.goes.can);
+      ready = record {
+        shaped = grind arith;
+        batch = subst (λ m. IsBatch m c.in-Some.batch) wide c.in-Some.ensures.batch;
+        ready = (candidates c.args.newcomer.states next, next_ready _ _ c.args.newcomer c.replay.order next _ c.in-Some.batch wide c.in-Some.ensures.first c.next_waiting_batch.ensures.rest c.replay.invariant.goes.can);
+      };
+      slices = c.requires.slices;
     }
 
 pub replay-preserved : goal.replay-preserved

@@ -33,15 +33,15 @@ bands-preserved g c =
     record {
       rest = rw (c.judge.ensures.rest, c.in-Some.ensures.rest, inv.rest) refl;
       long = c.judge.ensures.long ∙ inv.long;
-      fewer = λ z on. inv.fewer z (still_marked old mid y z c.in-Some.ensures.some (λ ne. c.in-Some.ensures.others z ne) (rw marks at on));
-      adds = λ gone kept. adds_on A gone _ _ b.list old.list new.list (inv.adds gone kept) (adds gone kept) (λ p m. (m.0, rw m.1 (inv.fewer y c.in-Some.ensures.some)));
+      fewer = λ z on. inv.fewer z (still_marked old mid y z c.in-Some.ensures.taken.was (λ ne. c.in-Some.ensures.taken.others z ne) (rw marks at on));
+      adds = λ gone kept. adds_on A gone _ _ b.list old.list new.list (inv.adds gone kept) (adds gone kept) (λ p m. (m.0, rw m.1 (inv.fewer y c.in-Some.ensures.taken.was)));
       done = λ gone p kept l on. elim (inv.done gone p kept l on) [
         | inl still ↦ elim (cases_eq (p / n / w) y) [
           | inl e ↦
               let is_band = lt-ltb y c.bands-bands.result (rw e at (band_of A n w _ p b c.requires.shaped c.known.ensures.lanes.0 c.known.ensures.band.0 c.bands-bands.ensures l)) in
               let judged = c.judge.ensures.done gone (p / n % w) (p % n) (rw same kept) is_band (mod_below (p / n) w c.known.ensures.band.0) (mod_below p n c.known.ensures.lanes.0) in
               inr (subst (IsJudged A gone new.list) (ap (λ z. (z * w + p / n % w) * n + p % n) (sym e) ∙ pair_in n w p) judged)
-          | inr ne ↦ inl (rw marks (c.in-Some.ensures.others (p / n / w) ne ∙ still))
+          | inr ne ↦ inl (rw marks (c.in-Some.ensures.taken.others (p / n / w) ne ∙ still))
         ]
         | inr done ↦ inr (λ off. done (begins_unlisted A old.list new.list p (adds gone kept).begins off))
       ];
@@ -51,7 +51,7 @@ pub bands-smaller : goal.bands-smaller
 bands-smaller g c =
     let old = c.bands.order in
     let marks = ap (λ (d : Board). d.marks) c.judge.ensures.rest in
-    let fewer = count_falls (has_flag old.marks) (has_flag c.next_marked.new.self.marks) (64 * length old.marks) c.in-Some.y (marked_within old.marks c.in-Some.y c.in-Some.ensures.some) c.in-Some.ensures.some c.in-Some.ensures.taken c.in-Some.ensures.others in
+    let fewer = count_falls (has_flag old.marks) (has_flag c.next_marked.new.self.marks) (64 * length old.marks) c.in-Some.y (marked_within old.marks c.in-Some.y c.in-Some.ensures.taken.was) c.in-Some.ensures.taken.was c.in-Some.ensures.taken.cleared c.in-Some.ensures.taken.others in
     rw (marks, c.in-Some.ensures.long) fewer
 
 pub returns-clause-unmarked : goal.returns-clause-unmarked
