@@ -1,15 +1,13 @@
 -- The parts that are made are the parts of the definitions.
-use Rattle.roman_make.proofs.Common.{◌≡◌, ℕ, ◌<◌, ◌==◌, ◌&&◌, ◌∷◌, [], List, length, get_or, map, take, Bor, Bool, true, IsTrue, nat_lt, codes, refl, ap, ap₂, sym, ◌∙◌, subst, inl, inr, arith, list_all, and_parts, eqb-true, ltb-true, All-from_recursion, take-map, map-map, states_below, IsIn, normal_env, normal_beh, Beh, Move, has_move, IsDeterministic, any_true, move_test, from_normal_move, listed_env, listed_beh, AreMoves, NamedEnv, NamedBeh, NamedTarget, idle_worker, floor, floor_states, floor_actions, worker, worker_states, shift, shift_states, FLOOR_STEPS, WORKER_STEPS, SHIFT_STEPS}
+use Rattle.roman_make.proofs.Common.{◌≡◌, ℕ, ◌<◌, ◌==◌, ◌&&◌, ◌∷◌, [], List, length, get_or, map, take, Bor, Bool, true, IsTrue, nat_lt, codes, refl, ap, sym, ◌∙◌, subst, inl, inr, arith, list_all, and_parts, eqb-true, ltb-true, All-from_recursion, take-map, map-map, states_below, IsIn, normal_beh, Beh, Move, has_move, IsDeterministic, any_true, move_test, from_normal_move, named_env, named_beh, named_target, listed_beh, AreInRange, All, ◌≤◌, MAX_STATES, NamedEnv, idle_worker, floor, floor_states, floor_actions, worker, worker_states, shift, shift_states, FLOOR_STEPS, WORKER_STEPS, SHIFT_STEPS}
 use Rattle.std.specs.List.{AllByRecursion as ByRecursion}
 
 -- ---- the environment
 
 -- the environment from the tables is the floor
-pub floor_is : (made : NamedEnv) (states actions : List (List ℕ)) → states ≡ floor_states → actions ≡ floor_actions → (made.states ≡ states) × (made.actions ≡ actions)
-    → made.env ≡ normal_env (listed_env (length states) (length actions) 0 FLOOR_STEPS) → made ≡ floor
+pub floor_is : (states actions : List (List ℕ)) → states ≡ floor_states → actions ≡ floor_actions → named_env states actions 0 FLOOR_STEPS ≡ floor
 unfolding floor
-floor_is made states actions s a (ms, ma) normal =
-    λ i. record { states = (ms ∙ s) i; actions = (ma ∙ a) i; env = (normal ∙ ap₂ (λ n m. normal_env (listed_env n m 0 FLOOR_STEPS)) (ap length s) (ap length a)) i }
+floor_is states actions s a = rw (s, a) refl
 
 -- ---- the steps of machines
 
@@ -21,11 +19,11 @@ always rows = map (λ row. (row.0, 1, row.1, row.2)) rows
 abbrev is_within : ℕ → ℕ × ℕ × ℕ × ℕ → Bool
 is_within states m = nat_lt m.0 states && nat_lt m.2 5 && nat_lt m.3 states
 
--- the numbers of each step of a machine over the floor are in range
-pub moves_within : (env : NamedEnv) (states : List (List ℕ)) (steps rows : List (ℕ × ℕ × ℕ × ℕ)) (n : ℕ) → env ≡ floor → length states ≡ n → steps ≡ rows → list_all (is_within n) rows ≡ true
-    → AreMoves (length states) env.env.actions steps
+-- the numbers of a machine over the floor are in range
+pub lists_within : (env : NamedEnv) (states : List (List ℕ)) (finals : List ℕ) (steps rows : List (ℕ × ℕ × ℕ × ℕ)) (n : ℕ) → env ≡ floor → length states ≡ n → steps ≡ rows
+    → (0 < n) × (n ≤ MAX_STATES) → All (λ b. b < n) finals → list_all (is_within n) rows ≡ true → AreInRange (length states) env.env.actions 0 finals steps
 unfolding floor
-moves_within env states steps rows n e l r t = rw (e, l, r) (All-from_recursion (λ m. (m.0 < n) × (m.2 < 5) × (m.3 < n)) rows (each rows t))
+lists_within env states finals steps rows n e l r many ends t = rw (e, l, r) (record { count = many; begins = many.0; stops = ends; moves = All-from_recursion (λ m. (m.0 < n) × (m.2 < 5) × (m.3 < n)) rows (each rows t) })
   where
     each : (ms : List (ℕ × ℕ × ℕ × ℕ)) → list_all (is_within n) ms ≡ true → ByRecursion (λ m. (m.0 < n) × (m.2 < 5) × (m.3 < n)) ms
     each [] h = tt
@@ -50,18 +48,10 @@ over_floor env states finals steps rows n e l r = rw (e, l, r) refl
 -- ---- the worker
 
 -- the behaviour from the tables is the worker
-pub worker_is : (made : NamedBeh) (env : NamedEnv) (name : List ℕ) (states : List (List ℕ)) (steps : List (ℕ × ℕ × ℕ × ℕ))
-    → env ≡ floor → name ≡ codes "worker" → states ≡ worker_states → steps ≡ always WORKER_STEPS → (made.name ≡ name) × (made.states ≡ states)
-    → (made.env_states ≡ env.env.states) × (made.actions ≡ env.env.actions) → made.beh ≡ normal_beh env.env.states env.env.actions (listed_beh (length states) 0 (0 ∷ 2 ∷ []) steps)
-    → made ≡ worker
+pub worker_is : (env : NamedEnv) (name : List ℕ) (states : List (List ℕ)) (steps : List (ℕ × ℕ × ℕ × ℕ)) → env ≡ floor → name ≡ codes "worker" → states ≡ worker_states → steps ≡ always WORKER_STEPS
+    → named_beh env name states 0 (0 ∷ 2 ∷ []) steps ≡ worker
 unfolding floor worker states_below
-worker_is made env name states steps e n s rows (named, listed) (env_states, actions) normal = λ i. record {
-  name = (named ∙ n) i;
-  states = (listed ∙ s) i;
-  env_states = (env_states ∙ ap (λ x. x.env.states) e) i;
-  actions = (actions ∙ ap (λ x. x.env.actions) e) i;
-  beh = (normal ∙ over_floor env states (0 ∷ 2 ∷ []) steps (always WORKER_STEPS) 3 e (ap length s) rows) i;
-}
+worker_is env name states steps e n s rows = rw (e, n, s, rows) refl
 
 -- ---- the target
 
@@ -81,16 +71,10 @@ shift_single env states steps e s rows =
     one_to beh b e a b1 refl h1 ∙ sym (one_to beh b e a b2 refl h2))
 
 -- the target from the tables is the shift
-pub shift_is : (made : NamedTarget) (env : NamedEnv) (states : List (List ℕ)) (steps : List (ℕ × ℕ × ℕ × ℕ)) → env ≡ floor → states ≡ shift_states → steps ≡ always SHIFT_STEPS
-    → made.states ≡ states → (made.env_states ≡ env.env.states) × (made.actions ≡ env.env.actions)
-    → made.beh ≡ normal_beh env.env.states env.env.actions (listed_beh (length states) 0 (0 ∷ []) steps) → made ≡ shift
+pub shift_is : (env : NamedEnv) (states : List (List ℕ)) (steps : List (ℕ × ℕ × ℕ × ℕ)) → env ≡ floor → states ≡ shift_states → steps ≡ always SHIFT_STEPS
+    → named_target env states 0 (0 ∷ []) steps ≡ shift
 unfolding floor shift states_below
-shift_is made env states steps e s rows listed (env_states, actions) normal = λ i. record {
-  states = (listed ∙ s) i;
-  env_states = (env_states ∙ ap (λ x. x.env.states) e) i;
-  actions = (actions ∙ ap (λ x. x.env.actions) e) i;
-  beh = (normal ∙ over_floor env states (0 ∷ []) steps (always SHIFT_STEPS) 4 e (ap length s) rows) i;
-}
+shift_is env states steps e s rows = rw (e, s, rows) refl
 
 -- ---- the services
 

@@ -37,13 +37,6 @@ state_count targets = length-map (below (product_of (target_sizes (machines targ
 pub request_count : (env : NamedEnv) (targets : List Named) → length (request_names env targets) ≡ length (requests_in env targets)
 request_count env targets = length-map (requests_in env targets) _
 
-pub same_env : (a b : NamedEnv) → a.states ≡ b.states → a.actions ≡ b.actions → a.env ≡ b.env → a ≡ b
-same_env a b s k e = ap₂ (λ x y. record { states = x; actions = y; env = a.env }) s k ∙ ap (λ x. record { states = b.states; actions = b.actions; env = x }) e
-
-pub same_target : (a b : NamedTarget) → a.states ≡ b.states → a.env_states ≡ b.env_states → a.actions ≡ b.actions → a.beh ≡ b.beh → a ≡ b
-same_target a b s n k t =
-    ap₂ (λ x y. record { states = x; env_states = y; actions = a.actions; beh = a.beh }) s n ∙ ap₂ (λ x y. record { states = b.states; env_states = b.env_states; actions = x; beh = y }) k t
-
 -- parts with these names and records are the combined parts
 pub parts_are : (env : NamedEnv) (catalogue : List NamedBeh) (targets : List Named) (requests : List Request) (states actions : List (List ℕ)) (environment : NamedEnv) (made : List NamedBeh) (target : NamedTarget) →
     requests ≡ requests_in env targets → states ≡ combined_state_names targets → actions ≡ request_names env targets →

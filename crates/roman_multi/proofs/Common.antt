@@ -6,7 +6,7 @@ pub use Rattle.std.proofs.lemmas.List.Elements.{All-more}
 pub use Rattle.std.proofs.lemmas.List.Folds.{list_any-append}
 pub use Rattle.std.proofs.lemmas.Nat.{mod-mul-add}
 pub use Rattle.std.proofs.lemmas.Option.{get_or_from_slice_get, none-some, same_Some, slice_get-get_or, slice_get-map}
-pub use Rattle.std.proofs.lemmas.Result.{err_from_is_err_and}
+pub use Rattle.std.proofs.lemmas.Result.{IfOk-weaker, err_from_is_err_and}
 pub use Rattle.std.specs.List.{AllZip, list_all, list_any}
 pub use Rattle.std.specs.Option.{SomeIff, option_map}
 pub use Rattle.std.specs.Prelude.{if◌then◌else◌, slice_index_or}
@@ -24,14 +24,14 @@ pub use Rattle.roman_model.specs.SystemArena.{beh_next, env_next}
 pub use Rattle.roman_model.specs.declared.limits.TheConstants.{MAX_ACTIONS, MAX_STATES}
 pub use Rattle.roman_model.specs.declared.request.Request.{Request}
 pub use Rattle.roman_parts.proofs.CallerLemmas.{IsOver-start, IsOver-states, has_filter}
-pub use Rattle.roman_parts.specs.Listed.{AreMoves, AreTriples, listed_beh, listed_env, move_of, triple_of}
+pub use Rattle.roman_parts.specs.Listed.{AreMoves, AreTriples, listed_beh, listed_env, move_of, triple_of, named_beh, named_env, named_target}
 pub use Rattle.roman_parts.specs.Named.{IsOver, IsTarget, NamedBeh, NamedEnv, NamedTarget}
 pub use Rattle.roman_radix.specs.Radix.{with_part}
 pub use Rattle.roman_read.specs.Names.{is_name, is_name_byte, place_of}
 pub use Rattle.roman_multi.specs.Combining.{IsBehaviourOf, ObeysRules, PlainCombined, combined_behaviour, combined_state_names, has_bad_count, has_long_name, has_many_states, has_one_name, has_repeats, is_long, joined, machines, names_at, request_name, request_names, requests_in, stands_before}
 unfoldable pub use Rattle.roman_multi.specs.Combining.{combined_parts, forbidding}
 pub use Rattle.roman_multi.specs.Lists.{AreCombinedNames, flat, is_word, listed_moves, listed_triples, member_next, moves_by, moves_from, moves_in, moves_on, next_of_all, next_on, triples_by, used_at, used_by}
-pub use Rattle.roman_multi.specs.Merges.{IsMerge, combined_environment, next_in, next_of_member, one_target, state_total}
+pub use Rattle.roman_multi.specs.Merges.{IsMerge, combined_environment, next_in, next_of_member, one_target, state_total, combined_environment, merge_behaviour, merge_target}
 pub use Rattle.roman_multi.specs.declared.error.CombineError.{CombineError}
 pub use Rattle.roman_multi.specs.declared.merge.Merge.{Merge}
 pub use Rattle.roman_multi.specs.declared.parts.Named.{Named}

@@ -2,13 +2,6 @@
 use Rattle.roman_multi.proofs.Common.{◌≡◌, ℕ, ◌<◌, List, length, filter, slice_get, Err, Option, Some, None, refl, sym, arith, Result, Ok, IfOk, below, IsIn, from_below, filter_in, same_test, listed_number, number_listed, in_beh_next, from_beh_next, Env, Beh, IsEnv, IsBeh, is_final, has, has_move, has_move_on, beh_next, Request, NamedEnv, NamedBeh, IsOver, listed_moves, moves_on, IsBehaviourOf}
 use Rattle.roman_multi.proofs.MoveLemmas.{AreListsOf}
 
-pub if_ok_three : {X E : Type 0} (P Q R S : X → Type 0) (r : Result X E) → ((x : X) → P x → Q x → R x → S x) → IfOk r P → IfOk r Q → IfOk r R → IfOk r S
-if_ok_three P Q R S (Ok x) more p q s = more x p q s
-if_ok_three P Q R S (Err e) more p q s = p
-
-pub same_behaviour : (a b : NamedBeh) → a.name ≡ b.name → a.states ≡ b.states → a.env_states ≡ b.env_states → a.actions ≡ b.actions → a.beh ≡ b.beh → a ≡ b
-same_behaviour a b n s e k m = grind arith
-
 -- the next states of a behaviour are states of it
 moves_on_below : (beh : Beh) (b e : ℕ) (o : Option Request) (to : ℕ) → IsIn to (moves_on beh b e o) → to < beh.states
 moves_on_below beh b e None to i = absurd i

@@ -5,12 +5,20 @@ use Rattle.roman_model.specs.Combined.{combined_env, combined_target, target_siz
 use Rattle.roman_model.specs.declared.request.Request.{Request}
 use Rattle.roman_model.specs.declared.limits.TheConstants.{MAX_ACTIONS, MAX_STATES}
 use Rattle.roman_parts.specs.Named.{IsTarget, NamedBeh, NamedEnv, NamedTarget}
-use Rattle.roman_multi.specs.Combining.{IsBehaviourOf, PlainCombined, combined_behaviour, combined_parts, forbidding, machines, requests_in, state_count}
+use Rattle.roman_multi.specs.Combining.{IsBehaviourOf, IsOf, PlainCombined, combined_behaviour, combined_parts, forbidding, machines, requests_in, state_count}
 use Rattle.roman_multi.specs.Lists.{AreOver, flat, moves_by, moves_from, moves_on, next_of_all}
 use Rattle.roman_multi.specs.declared.behaviours.Member.{Member}
 use Rattle.roman_multi.specs.declared.error.CombineError.{CombineError}
 use Rattle.roman_multi.specs.declared.parts.Named.{Named}
 use Rattle.roman_multi.specs.declared.merge.Merge.{Merge}
+
+-- there are two to four targets
+abbrev pub AreSeveral : List Named → Type 0
+AreSeveral targets = (2 ≤ length targets) × (length targets ≤ 4)
+
+-- the targets are over the environment
+abbrev pub AreTargetsOf : NamedEnv → List Named → Type 0
+AreTargetsOf env targets = All (λ named. IsOf env named.target) targets
 
 -- the number of combined states
 abbrev pub state_total : Merge → ℕ

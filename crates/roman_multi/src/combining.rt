@@ -1,8 +1,8 @@
 //! The combination of several targets.
 ghost use Rattle.std.specs.Prelude.{◌≡◌, ◌≤◌, length, All};
-ghost use Rattle.roman_multi.specs.Combining.{IsBehaviourOf, IsOf, ObeysRules, combined_parts, forbidding, has_bad_count, Makes};
+ghost use Rattle.roman_multi.specs.Combining.{IsBehaviourOf, ObeysRules, combined_parts, forbidding, has_bad_count, Makes};
 ghost use Rattle.roman_multi.specs.Lists.{AreCombinedNames};
-ghost use Rattle.roman_multi.specs.Merges.{IsMerge, merge_parts, merge_rule, AreOverEnv};
+ghost use Rattle.roman_multi.specs.Merges.{AreSeveral, AreTargetsOf, IsMerge, merge_parts, merge_rule, AreOverEnv};
 
 use crate::asking::requests;
 use crate::behaviours::combine_catalogue;
@@ -35,9 +35,9 @@ pub fn combine(
     catalogue: &[Behaviour],
     targets: &[Named],
 ) -> Result<Combined, CombineError>
-    requires count { (2 ≤ length targets.now) × (length targets.now ≤ 4) }
+    requires count { AreSeveral targets.now }
     requires catalogue { All (IsBehaviourOf env.now) catalogue.now }
-    requires targets { All (λ named. IsOf env.now named.target) targets.now }
+    requires targets { AreTargetsOf env.now targets.now }
     ensures parts { Makes result (combined_parts env.now catalogue.now targets.now) }
     ensures rules { ObeysRules result (forbidding env.now targets.now) }
 {

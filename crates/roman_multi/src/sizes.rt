@@ -2,8 +2,9 @@
 ghost use Rattle.std.specs.Prelude.{◌≡◌, All, OnOk};
 ghost use Rattle.roman_model.specs.Combined.{target_sizes};
 ghost use Rattle.roman_parts.specs.Named.{IsTarget};
-ghost use Rattle.roman_multi.specs.Combining.{IsOf, machines};
+ghost use Rattle.roman_multi.specs.Combining.{machines};
 ghost use Rattle.roman_multi.specs.Lists.{ReturnsList};
+ghost use Rattle.roman_multi.specs.Merges.{AreTargetsOf};
 
 use crate::parts::Named;
 use roman_parts::Environment;
@@ -16,7 +17,7 @@ pub(crate) fn sizes_of(
     env: &Environment,
     targets: &[Named],
 ) -> Result<Vec<u8>, AllocError>
-    requires { All (λ named. IsOf env.now named.target) targets.now }
+    requires { AreTargetsOf env.now targets.now }
     ensures sizes { ReturnsList result (target_sizes (machines targets.now)) }
     ensures known { OnOk result (All (λ named. IsTarget env.now named.target) targets.now) }
 {

@@ -1,5 +1,5 @@
 -- The cells of a table after one more step.
-use Rattle.roman_parts.proofs.Common.{Bool, List, [], ap, ap₂, arith, false, get_or, inl, inr, length, replicate, set, subst, sym, take, true, ℕ, ◌%◌, ◌&&◌, ◌*◌, ◌+◌, ◌<◌, ◌≤◌, ◌==◌, ◌^◌, ◌||◌, ◌∙◌, ◌≡◌, refl, and_from, and_parts, cases_eq, cases_lt, eq-eqb, eqb-true, ne_eqb, get_or-replicate, get_or-set_other, get_or-set_same, get_or_past, length-replicate, list_any_more, same_from_place, bit_at-zero, bit_at_set_other, bit_at_set_same, bit_at, w64, bit_or, if◌then◌else◌, has_state, same_test, HasMoves, HasTriples, PutsIntoCell, PutsIntoCells, cell_has, ends, goes, leads, and-true, or-false, or-true}
+use Rattle.roman_parts.proofs.Common.{Bool, List, [], ap, ap₂, arith, false, get_or, inl, inr, length, replicate, set, subst, sym, take, true, ℕ, ◌%◌, ◌&&◌, ◌*◌, ◌+◌, ◌<◌, ◌≤◌, ◌==◌, ◌^◌, ◌||◌, ◌∙◌, ◌≡◌, refl, and_from, and_parts, cases_eq, cases_lt, eq-eqb, eqb-true, ne_eqb, get_or-replicate, get_or-set_other, get_or-set_same, get_or_past, length-replicate, list_any_more, same_from_place, bit_at-zero, bit_at_set_other, bit_at_set_same, bit_at, w64, bit_or, has_state, same_test, HasMoves, HasTriples, PutsIntoCell, PutsIntoCells, cell_has, ends, goes, leads, and-true, or-false, or-true}
 
 -- the mask after n is added
 pub has_set : (mask n m : ℕ) → n < 64 → has_state (bit_or mask (1 * 2 ^ n % 2 ^ 64)) m ≡ (has_state mask m || n == m)

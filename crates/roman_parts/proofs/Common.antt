@@ -46,7 +46,7 @@ unfoldable pub use Rattle.roman_parts.specs.Cells.{cell_has}
 unfoldable pub use Rattle.roman_parts.specs.Choices.{choice_at, choice_between, choice_of, choice_with, first_below, single_of}
 pub use Rattle.roman_parts.specs.Guards.{among_of, each_guard, no_guard, operator_of, sole_member, sole_of, state_in}
 unfoldable pub use Rattle.roman_parts.specs.Guards.{guard_of, guards_of}
-pub use Rattle.roman_parts.specs.Listed.{AreMoves, AreTriples, listed_beh, listed_env, move_of, triple_of}
+pub use Rattle.roman_parts.specs.Listed.{AreInRange, AreMoves, AreTriples, IsCountUpTo, guarded_beh, listed_beh, listed_env, move_of, triple_of}
 pub use Rattle.roman_parts.specs.Lists.{finals_of}
 unfoldable pub use Rattle.roman_parts.specs.Lists.{name_step, names_of, place_in, start_of}
 pub use Rattle.roman_parts.specs.Named.{IsBehaviour, IsOver, IsTarget, NamedBeh, NamedEnv, NamedTarget}
@@ -57,5 +57,6 @@ unfoldable pub use Rattle.roman_parts.specs.Reading.{counted_items}
 pub use Rattle.roman_parts.specs.Rows.{IsCut, pieces}
 pub use Rattle.roman_parts.specs.Steps.{four_of, move_item, moves_of, three_of, triple_item, triples_of}
 pub use Rattle.roman_parts.specs.Tables.{HasGuardedRows, HasRows, automaton_of, row_has}
+pub use Rattle.roman_parts.specs.declared.cells.Cells.{Cells}
 pub use Rattle.roman_parts.specs.declared.error.List.TheVariants.{Finals, Steps}
 pub use Rattle.roman_parts.specs.declared.error.PartError.{PartError}

@@ -1,5 +1,5 @@
 -- The value of a document that is read as a part is well formed.
-use Rattle.roman_parts.proofs.Common.{◌≡◌, ℕ, ◌+◌, ◌<◌, ◌≤◌, Bool, true, false, List, [], length, Option, Some, None, is_some, Ok, IsTrue, refl, sym, ap, ◌∙◌, subst, arith, length-append, is_none, codes, and_parts, Data, Items, no_items, item, as_object, IsIn, normal_env, Beh, Move, IsEnv, Triple, MAX_STATES, MAX_ACTIONS, each_item, any_from, choice_of, single_of, name_step, place_in, names_of, start_of, finals_of, NamedEnv, NamedBeh, NamedTarget, IsBehaviour, IsTarget, position_or_len, bytes_eq, position-Some, bytes_eq-Decides, items_len, place_of, Kind, same_ok, bind_ok, place_of-present, environment_of, name_of, behaviour_of, target_of, found, check, items_at, counted_items, triples_of, moves_of}
+use Rattle.roman_parts.proofs.Common.{◌≡◌, ℕ, ◌+◌, ◌<◌, ◌≤◌, Bool, List, [], length, Option, Some, None, is_some, Ok, IsTrue, refl, sym, ap, ◌∙◌, subst, arith, length-append, is_none, codes, and_parts, Data, Items, no_items, item, as_object, IsIn, normal_env, Beh, Move, IsEnv, Triple, MAX_STATES, MAX_ACTIONS, each_item, any_from, choice_of, single_of, name_step, place_in, names_of, start_of, finals_of, NamedEnv, NamedBeh, NamedTarget, IsBehaviour, IsTarget, position_or_len, bytes_eq, position-Some, bytes_eq-Decides, items_len, place_of, Kind, same_ok, bind_ok, place_of-present, environment_of, name_of, behaviour_of, target_of, found, check, items_at, counted_items, triples_of, moves_of}
 use Rattle.roman_read.specs.declared.rules.Kind.TheVariants as kind
 use Rattle.roman_parts.specs.declared.error.List.{List as Place}
 use Rattle.roman_parts.specs.declared.error.List.TheVariants as list
@@ -9,16 +9,13 @@ use Rattle.roman_parts.proofs.SingleLemmas.{single_moves}
 -- Readings that succeed
 
 pub check_is : {X : Type 0} (b : Bool) (rule : Kind) (list : Place) (i : ℕ) (x y : X) → check b rule list i x ≡ Ok y → IsTrue b × (x ≡ y)
-check_is true rule list i x y h = (refl, same_ok x y h)
-check_is false rule list i x y h = cc
+check_is b rule list i x y h = grind (arith, same_ok)
 
 pub found_is : {X : Type 0} (rule : Kind) (list : Place) (i : ℕ) (o : Option X) (x : X) → found rule list i o ≡ Ok x → o ≡ Some x
-found_is rule list i None x h = cc
-found_is rule list i (Some y) x h = ap Some (same_ok y x h)
+found_is rule list i o x h = grind (arith, same_ok)
 
 pub none_is : {X : Type 0} (o : Option X) → IsTrue (is_none o) → o ≡ None
-none_is None h = refl
-none_is (Some x) h = absurd (let e : ⊥ = cc in e)
+none_is o h = grind arith
 
 -- Lists
 

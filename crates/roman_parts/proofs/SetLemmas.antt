@@ -1,5 +1,5 @@
 -- The states of a word, one by one.
-use Rattle.roman_parts.proofs.Common.{◌≡◌, ℕ, zero, suc, ◌+◌, ◌*◌, ◌%◌, ◌^◌, ◌<◌, ◌≤◌, ◌==◌, Bool, true, false, cond, [], ◌∷◌, length, ap, sym, ◌∙◌, refl, inl, inr, arith, length-append, ◌≢◌, filter, w64, bit_not, trailing_zeros, cases_order, cond_both, range_with_len, bit_at-zero, bit_at-trailing_zeros, bit_at_clear_same, bit_at_clear_other, has_state, states_below, states_of, states_below-zero, states_below-suc, bit_and, bits}
+use Rattle.roman_parts.proofs.Common.{◌≡◌, ℕ, zero, suc, ◌+◌, ◌*◌, ◌%◌, ◌^◌, ◌<◌, ◌≤◌, ◌==◌, Bool, true, false, cond, [], ◌∷◌, length, ap, sym, refl, inl, inr, arith, length-append, ◌≢◌, filter, w64, bit_not, trailing_zeros, cases_order, cond_both, range_with_len, bit_at-zero, bit_at-trailing_zeros, bit_at_clear_same, bit_at_clear_other, has_state, states_below, states_of, states_below-zero, states_below-suc, bit_and, bits}
 
 -- tests that agree keep the same numbers
 kept_same : (p q : ℕ → Bool) (a m : ℕ) → ((i : ℕ) → a ≤ i → i < a + m → q i ≡ p i) → filter p (range_with_len a m) ≡ filter q (range_with_len a m)

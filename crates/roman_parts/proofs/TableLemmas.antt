@@ -1,5 +1,5 @@
 -- Rows made from the masks of a list of steps hold the steps of the record in normal form.
-use Rattle.roman_parts.proofs.Common.{Bool, IsTrue, List, Some, [], ap, arith, false, filter, length, map, refl, slice_get, subst, suc, sym, true, zero, ℕ, ◌*◌, ◌++◌, ◌+◌, ◌-◌, ◌<◌, ◌==◌, ◌∙◌, ◌∷◌, ◌≡◌, ◌≤◌, get_or, and_parts, eq-eqb, eqb-true, false_from_ne_true, get_or-map, length-map, All-contains, All-filter, filter-append, mul-add-lt, get_or_from_slice_get, slice_get-get_or, list_any, if◌then◌else◌, slice_index_or, states_below-past, states_below-same, states_below-suc, states_below-zero, has_state, states_of, states_below, any_from, any_same, any_true, filter_in, env_from_same, beh_from_same, get_or-below, in_below, in_contains, in_filter, length-below, list_any-map, same_test, below, env_from, normal_beh, normal_env, Env, has, has_move, has_triple, beh_next, beh_prev, env_next, env_prev, MAX_ACTIONS, MAX_STATES, HasMoves, HasTriples, goes, leads, cell_has, automaton_of, row_has, HasGuardedRows, HasRows, move_of, triple_of, AreMoves, AreTriples, listed_beh, listed_env}
+use Rattle.roman_parts.proofs.Common.{Bool, IsTrue, List, Some, [], ap, arith, false, filter, length, map, refl, slice_get, subst, suc, sym, true, zero, ℕ, ◌*◌, ◌++◌, ◌+◌, ◌-◌, ◌<◌, ◌==◌, ◌∙◌, ◌∷◌, ◌≡◌, ◌≤◌, get_or, and_parts, eq-eqb, eqb-true, false_from_ne_true, get_or-map, length-map, All-contains, All-filter, filter-append, mul-add-lt, get_or_from_slice_get, slice_get-get_or, list_any, if◌then◌else◌, slice_index_or, states_below-past, states_below-same, states_below-suc, states_below-zero, has_state, states_of, states_below, any_from, any_same, any_true, filter_in, env_from_same, beh_from_same, get_or-below, in_below, in_contains, in_filter, length-below, list_any-map, same_test, below, env_from, normal_env, Env, has, has_move, has_triple, beh_next, beh_prev, env_next, env_prev, MAX_ACTIONS, MAX_STATES, HasMoves, HasTriples, goes, leads, cell_has, automaton_of, row_has, HasGuardedRows, HasRows, move_of, triple_of, AreInRange, AreTriples, Cells, IsCountUpTo, guarded_beh, listed_beh, listed_env}
 use Rattle.roman_parts.proofs.CellLemmas.{and_turned, four_turned}
 use Rattle.roman_parts.proofs.NormalLemmas.{env_next-normal, env_prev-normal, IsEnv-normal, beh_next-normal, beh_prev-normal, IsOver-normal, is_final-normal}
 
@@ -83,54 +83,53 @@ moves_added true states start finals steps b e a n small =
     any_same _ _ steps (λ m i. rw (has_states_of m.1 e small) (four_turned (m.3 == b) (m.2 == a) (has_state m.1 e) (m.0 == n))) ∙ sym (list_any-map move_of _ steps)
 
 -- the rows and the mask make the normal form, and give its look-ups
-pub record AreLaidMoves (states env_states actions start : ℕ) (finals : List ℕ) (steps : List (ℕ × ℕ × ℕ × ℕ)) (mask : ℕ) (to from : List ℕ) : Type 0 where
-  pub automaton : automaton_of states env_states actions start mask (map states_of to) ≡ record { env_states = env_states; actions = actions; beh = normal_beh env_states actions (listed_beh states start finals steps) }
-  pub rows : HasGuardedRows (record { env_states = env_states; actions = actions; beh = normal_beh env_states actions (listed_beh states start finals steps) }) mask (map states_of to) (map states_of from)
+pub record AreLaidMoves (cells : Cells) (start : ℕ) (finals : List ℕ) (steps : List (ℕ × ℕ × ℕ × ℕ)) (mask : ℕ) (to from : List ℕ) : Type 0 where
+  pub automaton : automaton_of cells.states cells.env_states cells.actions start mask (map states_of to) ≡ guarded_beh cells start finals steps
+  pub rows : HasGuardedRows (guarded_beh cells start finals steps) mask (map states_of to) (map states_of from)
 
 -- the rows made from the masks of a list of steps
-module _ (states env_states actions start : ℕ) (finals : List ℕ) (steps : List (ℕ × ℕ × ℕ × ℕ)) (mask : ℕ) (to from : List ℕ)
-    (many_states : (0 < states) × (states ≤ MAX_STATES)) (many_env_states : (0 < env_states) × (env_states ≤ MAX_STATES))
-    (many_actions : (0 < actions) × (actions ≤ MAX_ACTIONS)) (starts : start < states)
-    (range : AreMoves states actions steps)
+module _ (cells : Cells) (start : ℕ) (finals : List ℕ) (steps : List (ℕ × ℕ × ℕ × ℕ)) (mask : ℕ) (to from : List ℕ)
+    (many_env_states : IsCountUpTo MAX_STATES cells.env_states) (many_actions : IsCountUpTo MAX_ACTIONS cells.actions)
+    (lists : AreInRange cells.states cells.actions start finals steps)
     (mask_has : (b : ℕ) → has_state mask b ≡ has finals b)
-    (to_len : length to ≡ states * env_states * actions) (from_len : length from ≡ states * env_states * actions)
-    (to_has : HasMoves false env_states actions steps to) (from_has : HasMoves true env_states actions steps from) where
-  moves_in_range : (b e a b' : ℕ) → IsTrue (has_move (listed_beh states start finals steps) b e a b') → (b < states) × (a < actions) × (b' < states)
+    (to_len : length to ≡ cells.states * cells.env_states * cells.actions) (from_len : length from ≡ cells.states * cells.env_states * cells.actions)
+    (to_has : HasMoves false cells.env_states cells.actions steps to) (from_has : HasMoves true cells.env_states cells.actions steps from) where
+  moves_in_range : (b e a b' : ℕ) → IsTrue (has_move (listed_beh cells.states start finals steps) b e a b') → (b < cells.states) × (a < cells.actions) × (b' < cells.states)
   moves_in_range b e a b' t = grind (arith, All-contains, and_parts, any_true, eqb-true, in_contains, list_any-map)
 
-  place : (b e a : ℕ) → b < states → e < env_states → a < actions → (b * env_states + e) * actions + a < states * env_states * actions
+  place : (b e a : ℕ) → b < cells.states → e < cells.env_states → a < cells.actions → (b * cells.env_states + e) * cells.actions + a < cells.states * cells.env_states * cells.actions
   place b e a hb he ha =
-      let row : b * env_states + e < states * env_states = omega (arith, mul-add-lt b env_states e states hb he) in
-      omega (arith, mul-add-lt (b * env_states + e) actions a (states * env_states) row ha)
+      let row : b * cells.env_states + e < cells.states * cells.env_states = omega (arith, mul-add-lt b cells.env_states e cells.states hb he) in
+      omega (arith, mul-add-lt (b * cells.env_states + e) cells.actions a (cells.states * cells.env_states) row ha)
 
-  out_row : (b e a : ℕ) → b < states → e < env_states → a < actions →
-      slice_get (map states_of to) ((b * env_states + e) * actions + a) ≡ Some (beh_next (listed_beh states start finals steps) b e a)
+  out_row : (b e a : ℕ) → b < cells.states → e < cells.env_states → a < cells.actions →
+      slice_get (map states_of to) ((b * cells.env_states + e) * cells.actions + a) ≡ Some (beh_next (listed_beh cells.states start finals steps) b e a)
   out_row b e a hb he ha =
-      row_of_cell to ((b * env_states + e) * actions + a) states (has_move (listed_beh states start finals steps) b e a) (omega (arith, place b e a hb he ha)) (omega arith)
-      (λ b'. to_has.has b e a b' he ha ∙ moves_added false states start finals steps b e a b' (omega arith))
+      row_of_cell to ((b * cells.env_states + e) * cells.actions + a) cells.states (has_move (listed_beh cells.states start finals steps) b e a) (omega (arith, place b e a hb he ha)) (omega arith)
+      (λ b'. to_has.has b e a b' he ha ∙ moves_added false cells.states start finals steps b e a b' (omega arith))
       (λ b' past. false_from_ne_true _ (λ t. let (l, m, n) = moves_in_range b e a b' t in let none : ⊥ = omega arith in none))
 
-  into_row : (b' e a : ℕ) → b' < states → e < env_states → a < actions →
-      slice_get (map states_of from) ((b' * env_states + e) * actions + a) ≡ Some (beh_prev (listed_beh states start finals steps) b' e a)
+  into_row : (b' e a : ℕ) → b' < cells.states → e < cells.env_states → a < cells.actions →
+      slice_get (map states_of from) ((b' * cells.env_states + e) * cells.actions + a) ≡ Some (beh_prev (listed_beh cells.states start finals steps) b' e a)
   into_row b' e a hb' he ha =
-      row_of_cell from ((b' * env_states + e) * actions + a) states (λ b. has_move (listed_beh states start finals steps) b e a b') (omega (arith, place b' e a hb' he ha)) (omega arith)
-      (λ b. from_has.has b' e a b he ha ∙ moves_added true states start finals steps b' e a b (omega arith))
+      row_of_cell from ((b' * cells.env_states + e) * cells.actions + a) cells.states (λ b. has_move (listed_beh cells.states start finals steps) b e a b') (omega (arith, place b' e a hb' he ha)) (omega arith)
+      (λ b. from_has.has b' e a b he ha ∙ moves_added true cells.states start finals steps b' e a b (omega arith))
       (λ b past. false_from_ne_true _ (λ t. let (l, m, n) = moves_in_range b e a b' t in let none : ⊥ = omega arith in none))
 
-  pub laid_moves : AreLaidMoves states env_states actions start finals steps mask to from
+  pub laid_moves : AreLaidMoves cells start finals steps mask to from
   laid_moves = record {
-    automaton = ap (λ beh. record { env_states = env_states; actions = actions; beh = beh })
-        (beh_from_same env_states actions states start _ _ _ _ (λ b hb. mask_has b) (λ b e a b' hb he ha hb'. row_keeps _ (map states_of to) ((b * env_states + e) * actions + a) states b' (out_row b e a hb he ha) hb'));
+    automaton = ap (λ beh. record { env_states = cells.env_states; actions = cells.actions; beh = beh })
+        (beh_from_same cells.env_states cells.actions cells.states start _ _ _ _ (λ b hb. mask_has b) (λ b e a b' hb he ha hb'. row_keeps _ (map states_of to) ((b * cells.env_states + e) * cells.actions + a) cells.states b' (out_row b e a hb he ha) hb'));
     rows = record {
       env_states = many_env_states;
       actions = many_actions;
-      start = starts;
+      start = lists.begins;
       nexts = length-map to states_of ∙ to_len;
       prevs = length-map from states_of ∙ from_len;
-      known = IsOver-normal env_states actions (listed_beh states start finals steps) many_states starts;
-      final = λ b hb. is_final-normal env_states actions (listed_beh states start finals steps) b hb ∙ sym (mask_has b);
-      next = λ b e a hb he ha. out_row b e a hb he ha ∙ ap Some (sym (beh_next-normal env_states actions (listed_beh states start finals steps) b e a hb he ha));
-      prev = λ b' e a hb' he ha. into_row b' e a hb' he ha ∙ ap Some (sym (beh_prev-normal env_states actions (listed_beh states start finals steps) b' e a hb' he ha));
+      known = IsOver-normal cells.env_states cells.actions (listed_beh cells.states start finals steps) lists.count lists.begins;
+      final = λ b hb. is_final-normal cells.env_states cells.actions (listed_beh cells.states start finals steps) b hb ∙ sym (mask_has b);
+      next = λ b e a hb he ha. out_row b e a hb he ha ∙ ap Some (sym (beh_next-normal cells.env_states cells.actions (listed_beh cells.states start finals steps) b e a hb he ha));
+      prev = λ b' e a hb' he ha. into_row b' e a hb' he ha ∙ ap Some (sym (beh_prev-normal cells.env_states cells.actions (listed_beh cells.states start finals steps) b' e a hb' he ha));
     };
   }
 

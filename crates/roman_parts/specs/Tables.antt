@@ -1,5 +1,6 @@
 -- Tables with one row for each cell, which hold the steps of a record.
-use Rattle.std.specs.Prelude.{◌≡◌, ℕ, ◌+◌, ◌*◌, ◌<◌, ◌≤◌, Bool, List, [], ◌∷◌, length, MatchOption, Option, Some, slice_get, slice_index_or}
+use Rattle.std.specs.Prelude.{◌≡◌, ℕ, ◌+◌, ◌*◌, ◌<◌, ◌≤◌, ◌&&◌, not, Bool, List, [], ◌∷◌, length, MatchOption, Option, Some, slice_get, slice_index_or}
+use Rattle.roman_model.specs.Lists.{is_empty}
 use Rattle.roman_model.specs.System.{Env, Beh, has, IsEnv, IsDeterministic, is_final}
 use Rattle.roman_model.specs.SystemArena.{env_next, env_prev, beh_next, beh_prev}
 use Rattle.roman_model.specs.Made.{beh_from}
@@ -20,6 +21,10 @@ pub record HasRows (env : Env) (to from : List (List ℕ)) : Type 0 where
 -- the result is the only state of the list, or none if the list is empty
 abbrev pub IsSole : List ℕ → Option ℕ → Type 0
 IsSole states result = MatchOption result (states ≡ []) (λ to. states ≡ to ∷ [])
+
+-- both the environment and the behaviour have a step on the action
+abbrev pub have_steps : Env → Beh → ℕ → ℕ → ℕ → Bool
+have_steps env beh b e a = not (is_empty (env_next env e a)) && not (is_empty (beh_next beh b e a))
 
 -- a behaviour with the numbers of states and actions of its environment
 pub record GuardedBeh : Type 0 where

@@ -1,10 +1,9 @@
 //! The common part of behaviours and targets.
-ghost use Rattle.std.specs.Prelude.{◌≡◌, ℕ, ◌<◌, ◌≤◌, All, IfOk};
+ghost use Rattle.std.specs.Prelude.{◌≡◌, ℕ, ◌<◌, All, IfOk};
 ghost use Rattle.roman_guard.specs.Meaning.{has_state};
 ghost use Rattle.roman_model.specs.System.{has, is_final};
 ghost use Rattle.roman_model.specs.SystemArena.{beh_next, beh_prev};
-ghost use Rattle.roman_model.specs.Normal.{normal_beh};
-ghost use Rattle.roman_parts.specs.Listed.{listed_beh, AreMoves};
+ghost use Rattle.roman_parts.specs.Listed.{guarded_beh, AreInRange, IsCountUpTo};
 ghost use Rattle.roman_parts.specs.Named.{IsOver};
 
 use crate::cells::Cells;
@@ -50,16 +49,10 @@ impl Automaton {
         finals: &[u8],
         steps: &[Move],
     ) -> Result<Automaton, AllocError>
-        requires states { (0 < cells.states) × (cells.states ≤ MAX_STATES) }
-        requires env_states { (0 < cells.env_states) × (cells.env_states ≤ MAX_STATES) }
-        requires actions { (0 < cells.actions) × (cells.actions ≤ MAX_ACTIONS) }
-        requires start { start < cells.states }
-        requires finals { All (λ b. b < cells.states) finals.now }
-        requires steps { AreMoves cells.states cells.actions steps.now }
-        ensures env_states { IfOk result (λ made. made.env_states ≡ cells.env_states) }
-        ensures actions { IfOk result (λ made. made.actions ≡ cells.actions) }
-        ensures normal { IfOk result (λ made. made.beh
-            ≡ normal_beh cells.env_states cells.actions (listed_beh cells.states start finals.now steps.now)) }
+        requires env_states { IsCountUpTo MAX_STATES cells.env_states }
+        requires actions { IsCountUpTo MAX_ACTIONS cells.actions }
+        requires lists { AreInRange cells.states cells.actions start finals.now steps.now }
+        ensures { IfOk result (λ made. made ≡ guarded_beh cells start finals.now steps.now) }
     {
         let next = Rows::of_masks(alloc, &move_masks::<false>(alloc, cells, steps)?)?;
         let prev = Rows::of_masks(alloc, &move_masks::<true>(alloc, cells, steps)?)?;

@@ -1,16 +1,14 @@
 //! Behaviours.
-ghost use Rattle.std.specs.Prelude.{◌≡◌, ◌<◌, ◌≤◌, length, All, IfOk};
+ghost use Rattle.std.specs.Prelude.{◌≡◌, ◌<◌, length, All, IfOk};
 ghost use Rattle.roman_model.specs.SystemArena.{beh_next, beh_prev};
 ghost use Rattle.roman_model.specs.System.{is_final};
-ghost use Rattle.roman_model.specs.Normal.{normal_beh};
-ghost use Rattle.roman_parts.specs.Listed.{listed_beh, AreMoves};
+ghost use Rattle.roman_parts.specs.Listed.{named_beh, AreInRange};
 ghost use Rattle.roman_parts.specs.Named.{IsOver};
 
 use crate::automaton::Automaton;
 use crate::cells::Cells;
 use crate::environment::Environment;
 use crate::steps::Move;
-use roman_model::MAX_STATES;
 use roman_read::{Name, NameTable};
 use std::alloc::{AllocError, Global};
 use std::marker::Model;
@@ -59,16 +57,8 @@ impl Behaviour {
         steps: &[Move],
         env: &Environment,
     ) -> Result<Behaviour, AllocError>
-        requires states { (0 < length states) × (length states ≤ MAX_STATES) }
-        requires start { start < length states }
-        requires finals { All (λ b. b < length states) finals.now }
-        requires steps { AreMoves (length states) env.now.env.actions steps.now }
-        ensures names { IfOk result (λ made. (made.name ≡ name) × (made.states ≡ states)) }
-        ensures over { IfOk result
-            (λ made. (made.env_states ≡ env.now.env.states) × (made.actions ≡ env.now.env.actions)) }
-        ensures normal { IfOk result (λ made. made.beh
-            ≡ normal_beh env.now.env.states env.now.env.actions
-            (listed_beh (length states) start finals.now steps.now)) }
+        requires lists { AreInRange (length states) env.now.env.actions start finals.now steps.now }
+        ensures { IfOk result (λ made. made ≡ named_beh env.now name states start finals.now steps.now) }
     {
         env.known(); // the environment is well formed
         let cells = Cells::over(&states, env);

@@ -1,9 +1,8 @@
 //! Environments.
-ghost use Rattle.std.specs.Prelude.{◌≡◌, ◌<◌, ◌≤◌, length, All, IfOk};
+ghost use Rattle.std.specs.Prelude.{◌≡◌, ◌<◌, length, All, IfOk};
 ghost use Rattle.roman_model.specs.System.{IsEnv};
 ghost use Rattle.roman_model.specs.SystemArena.{env_next, env_prev};
-ghost use Rattle.roman_model.specs.Normal.{normal_env};
-ghost use Rattle.roman_parts.specs.Listed.{listed_env, AreTriples};
+ghost use Rattle.roman_parts.specs.Listed.{named_env, AreTriples, IsCountUpTo};
 
 use crate::masks::triple_masks;
 use crate::rows::Rows;
@@ -70,13 +69,11 @@ impl Environment {
         start: u8,
         steps: &[Triple],
     ) -> Result<Environment, AllocError>
-        requires states { (0 < length states) × (length states ≤ MAX_STATES) }
-        requires actions { (0 < length actions) × (length actions ≤ MAX_ACTIONS) }
+        requires states { IsCountUpTo MAX_STATES (length states) }
+        requires actions { IsCountUpTo MAX_ACTIONS (length actions) }
         requires start { start < length states }
         requires steps { AreTriples (length states) (length actions) steps.now }
-        ensures names { IfOk result (λ made. (made.states ≡ states) × (made.actions ≡ actions)) }
-        ensures normal { IfOk result
-            (λ made. made.env ≡ normal_env (listed_env (length states) (length actions) start steps.now)) }
+        ensures { IfOk result (λ made. made ≡ named_env states actions start steps.now) }
     {
         let height = states.len() as usize;
         let width = actions.len() as usize;

@@ -1,7 +1,7 @@
 //! Readers of transitions.
-ghost use Rattle.std.specs.Prelude.{◌^◌, ◌<◌, ◌≤◌, IfOk, length, map};
+ghost use Rattle.std.specs.Prelude.{◌<◌, ◌≤◌, IfOk, length, map};
 ghost use Rattle.serde_json.specs.View.{view};
-ghost use Rattle.roman_parts.specs.Listed.{triple_of, move_of, AreTriples, AreMoves, AreGuarded};
+ghost use Rattle.roman_parts.specs.Listed.{triple_of, move_of, records, AreFewNames, AreStepsOf, AreTriples, IsStepOf};
 ghost use Rattle.roman_parts.specs.Reading.{Gives};
 ghost use Rattle.roman_parts.specs.Steps.{triple_item, triples_of, move_item, moves_of};
 
@@ -78,16 +78,10 @@ pub(crate) fn read_moves(
     states: &NameTable,
     v: &Value,
 ) -> Result<Vec<Move>, PartError>
-    requires env_states { length env_states.now ≤ 64 }
-    requires actions { length actions.now ≤ 64 }
-    requires states { length states.now ≤ 64 }
-    ensures steps { Gives (λ steps. map move_of steps.items) result
+    requires names { AreFewNames env_states.now actions.now states.now }
+    ensures steps { Gives (λ steps. records steps.items) result
         (moves_of env_states.now actions.now states.now (view v.now)) }
-    ensures within { IfOk result
-        (λ steps. AreMoves (length states.now) (length actions.now) steps.items) }
-    ensures guards { IfOk result
-        (λ steps. AreGuarded env_states.now steps.items) }
-    ensures few { IfOk result (λ steps. length steps.items ≤ MAX_STEPS) }
+    ensures known { IfOk result (λ steps. AreStepsOf env_states.now actions.now states.now steps.items) }
 {
     let items = counted_member(v, "steps", List::Steps, 0, MAX_STEPS)?;
     let mut steps = Vec::with_capacity(alloc, items.len())?;
@@ -107,13 +101,9 @@ fn read_move(
     v: &Value,
     index: u32,
 ) -> Result<Move, PartError>
-    requires env_states { length env_states.now ≤ 64 }
-    requires actions { length actions.now ≤ 64 }
-    requires states { length states.now ≤ 64 }
+    requires names { AreFewNames env_states.now actions.now states.now }
     ensures step { Gives move_of result (move_item env_states.now actions.now states.now index (view v.now)) }
-    ensures within { IfOk result (λ m. (m.0 < length states.now) × (m.2 < length actions.now)
-        × (m.3 < length states.now)) }
-    ensures guard { IfOk result (λ m. m.1 < 2 ^ length env_states.now) }
+    ensures known { IfOk result (IsStepOf env_states.now actions.now states.now) }
 {
     let items = list_at(v, List::Steps, index)?;
     let [from, guard, action, to] = items else {

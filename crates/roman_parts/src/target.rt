@@ -1,18 +1,15 @@
 //! Targets.
-ghost use Rattle.std.specs.Prelude.{◌≡◌, ◌<◌, ◌≤◌, ◌&&◌, ◌∷◌, [], not, length, All, IfOk, IfSome};
-ghost use Rattle.roman_model.specs.Lists.{is_empty};
+ghost use Rattle.std.specs.Prelude.{◌≡◌, ◌<◌, length, All, IfOk, IfSome};
 ghost use Rattle.roman_model.specs.System.{IsDeterministic, is_final};
-ghost use Rattle.roman_model.specs.SystemArena.{env_next, beh_next, beh_prev};
-ghost use Rattle.roman_model.specs.Normal.{normal_beh};
-ghost use Rattle.roman_parts.specs.Listed.{listed_beh, AreMoves};
+ghost use Rattle.roman_model.specs.SystemArena.{beh_next, beh_prev};
+ghost use Rattle.roman_parts.specs.Listed.{named_target, AreInRange};
 ghost use Rattle.roman_parts.specs.Named.{IsOver};
-ghost use Rattle.roman_parts.specs.Tables.{IsSole};
+ghost use Rattle.roman_parts.specs.Tables.{IsSole, have_steps};
 
 use crate::automaton::Automaton;
 use crate::cells::Cells;
 use crate::environment::Environment;
 use crate::steps::Move;
-use roman_model::MAX_STATES;
 use roman_read::NameTable;
 use std::alloc::{AllocError, Global};
 use std::marker::Model;
@@ -67,19 +64,9 @@ impl Target {
         steps: &[Move],
         env: &Environment,
     ) -> Result<Target, AllocError>
-        requires states { (0 < length states) × (length states ≤ MAX_STATES) }
-        requires start { start < length states }
-        requires finals { All (λ t. t < length states) finals.now }
-        requires steps { AreMoves (length states) env.now.env.actions steps.now }
-        requires single { IsDeterministic
-            (normal_beh env.now.env.states env.now.env.actions
-            (listed_beh (length states) start finals.now steps.now)) }
-        ensures names { IfOk result (λ made. made.states ≡ states) }
-        ensures over { IfOk result
-            (λ made. (made.env_states ≡ env.now.env.states) × (made.actions ≡ env.now.env.actions)) }
-        ensures normal { IfOk result (λ made. made.beh
-            ≡ normal_beh env.now.env.states env.now.env.actions
-            (listed_beh (length states) start finals.now steps.now)) }
+        requires lists { AreInRange (length states) env.now.env.actions start finals.now steps.now }
+        requires single { IsDeterministic (named_target env.now states start finals.now steps.now).beh }
+        ensures { IfOk result (λ made. made ≡ named_target env.now states start finals.now steps.now) }
     {
         env.known(); // the environment is well formed
         let cells = Cells::over(&states, env);
@@ -168,8 +155,7 @@ impl Target {
         requires state { t < self.now.beh.states }
         requires env_state { e < self.now.env_states }
         requires action { a < self.now.actions }
-        ensures { result
-            ≡ (not (is_empty (env_next env.now.env e a)) && not (is_empty (beh_next self.now.beh t e a))) }
+        ensures { result ≡ have_steps env.now.env self.now.beh t e a }
     {
         let ends = env.next(e, a).is_empty();
         let stops = self.automaton.next(t, e, a).is_empty();

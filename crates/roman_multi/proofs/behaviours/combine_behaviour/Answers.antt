@@ -1,6 +1,6 @@
-use Rattle.roman_multi.proofs.Common.{ap, ◌∙◌, length, IsOver-states}
+use Rattle.roman_multi.proofs.Common.{◌≡◌, ap, ◌∙◌, length, refl, IfOk-weaker, IsOver-states, named_beh, merge_behaviour}
 use Rattle.roman_multi.proofs.MoveLemmas.{made_is, made_steps_in_range, made_finals_below}
-use Rattle.roman_multi.proofs.PartLemmas.{behaviour_lists, same_behaviour, if_ok_three}
+use Rattle.roman_multi.proofs.PartLemmas.{behaviour_lists}
 use Rattle.roman_multi.proofs.behaviours.combine_behaviour.Goals as goal
 
 pub moves_of-requires : goal.moves_of-requires
@@ -16,10 +16,12 @@ from_lists-requires c =
     let lists = behaviour_lists c.args.merge.now.env.now c.args.merge.now.requests.now c.args.behaviour.now (length c.in_ok-states.states) c.start.result c.deref.result.now c.deref-2.result.now c.known.ensures.known c.requires.of
     c.states.ensures.known count c.start.ensures.start (c.deref.ensures.value ∙ c.in_ok-finals.ensures) (c.deref-2.ensures.value ∙ c.in_ok-steps.ensures) in
     record {
-      states = rw count (IsOver-states _ _ _ c.states.ensures.known);
-      start = rw count c.start.ensures.within;
-      finals = made_finals_below _ _ _ _ _ _ _ _ _ _ lists;
-      steps = made_steps_in_range _ _ _ _ _ _ _ _ _ _ lists _ c.requires.over.actions;
+      lists = record {
+        count = rw count (IsOver-states _ _ _ c.states.ensures.known);
+        begins = rw count c.start.ensures.within;
+        stops = made_finals_below _ _ _ _ _ _ _ _ _ _ lists;
+        moves = made_steps_in_range _ _ _ _ _ _ _ _ _ _ lists _ c.requires.over.actions;
+      };
     }
 
 pub returns : goal.returns
@@ -27,7 +29,7 @@ returns c =
     let kept = c.in_ok-states.ensures.same ∙ c.states.ensures.names in
     let lists = behaviour_lists c.args.merge.now.env.now c.args.merge.now.requests.now c.args.behaviour.now (length c.in_ok-states.states) c.start.result c.deref.result.now c.deref-2.result.now c.known.ensures.known c.requires.of
     c.states.ensures.known (ap length kept ∙ c.states.ensures.count) c.start.ensures.start (c.deref.ensures.value ∙ c.in_ok-finals.ensures) (c.deref-2.ensures.value ∙ c.in_ok-steps.ensures) in
-    if_ok_three _ _ _ _ c.from_lists.result
-    (λ made names over normal. same_behaviour _ _ (names.0 ∙ c.name.ensures) (names.1 ∙ kept) (over.0 ∙ c.requires.over.states) (over.1 ∙ c.requires.over.actions)
-    (normal ∙ made_is _ _ _ _ _ _ _ _ _ _ lists _ _ c.requires.over.states c.requires.over.actions))
-    c.from_lists.ensures.names c.from_lists.ensures.over c.from_lists.ensures.normal
+    let beh = made_is _ _ _ _ _ _ _ _ _ _ lists _ _ c.requires.over.states c.requires.over.actions in
+    let same : named_beh c.args.over.now c.name.result.now c.in_ok-states.states c.start.result c.deref.result.now c.deref-2.result.now ≡ merge_behaviour c.args.merge.now c.args.behaviour.now =
+    rw (beh, c.name.ensures, kept, c.requires.over.states, c.requires.over.actions) refl in
+    IfOk-weaker c.from_lists.result _ _ (λ made is. is ∙ same) c.from_lists.ensures

@@ -1,4 +1,4 @@
-use Rattle.roman_parts.proofs.Common.{◌==◌, ◌≡◌, ◌*◌, ℕ, length, replicate, arith, take_at}
+use Rattle.roman_parts.proofs.Common.{◌≡◌, ◌*◌, ℕ, length, replicate, arith, take_at}
 use Rattle.roman_parts.proofs.CellLemmas.{moves_none, moves_more}
 use Rattle.roman_parts.proofs.masks.move_masks.Goals as goal
 

@@ -1,4 +1,4 @@
-use Rattle.roman_parts.proofs.Common.{mul-add-lt, ◌==◌, ◌≡◌, ◌*◌, length, replicate, refl, arith, take_at}
+use Rattle.roman_parts.proofs.Common.{mul-add-lt, ◌≡◌, ◌*◌, length, replicate, refl, arith, take_at}
 use Rattle.roman_parts.proofs.CellLemmas.{triples_none, triples_more}
 use Rattle.roman_parts.proofs.masks.triple_masks.Goals as goal
 

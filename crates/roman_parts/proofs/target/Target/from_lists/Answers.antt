@@ -5,6 +5,6 @@ pub invariant_of-result : goal.invariant_of-result
 invariant_of-result c =
     let made = c.in_ok-automaton.ensures in
     record {
-      count = sym (ap (λ beh. beh.states) made.normal ∙ c.over-cells.ensures.states);
-      single = rw (made.normal, c.over-cells.ensures.states, c.over-cells.ensures.env_states, c.over-cells.ensures.actions) c.requires.single;
+      count = sym (ap (λ g. g.beh.states) made ∙ c.over-cells.ensures.states);
+      single = rw (made, c.over-cells.ensures.states, c.over-cells.ensures.env_states, c.over-cells.ensures.actions) c.requires.single;
     }
