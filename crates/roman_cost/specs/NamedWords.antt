@@ -1,6 +1,7 @@
 -- Words for contracts about a system with its names: its pairs by their numbers, and the terms and values by listed costs.
-use Rattle.std.specs.Prelude.{◌≡◌, ℕ, ◌<◌, List, ◌++◌, map, IsTrue, Result, OnOk}
+use Rattle.std.specs.Prelude.{◌≡◌, ℕ, ◌<◌, ◌≤◌, length, List, ◌++◌, map, IsTrue, Result, OnOk}
 use Rattle.std.specs.List.{flat_map}
+use Rattle.roman_model.specs.Lists.{IsIn}
 use Rattle.roman_model.specs.Numbers.{sizes_of, count, pair_at}
 use Rattle.roman_model.specs.Offers.{is_related}
 use Rattle.roman_model.specs.Plans.{allowed_actions, choice, least, least_at, through}
@@ -14,6 +15,8 @@ use Rattle.roman_cost.specs.Advised.{AdviceTable, Advises, related_pairs}
 use Rattle.roman_cost.specs.Filling.{IsCostRow}
 use Rattle.roman_cost.specs.Tables.{AreOf, CostTable, seat_costs}
 use Rattle.roman_cost.specs.Terms.{action_terms, pair_terms, service_terms}
+use Rattle.roman_cost.specs.declared.costs.Listed.{Listed}
+use Rattle.roman_cost.specs.declared.limits.TheConstants.{MAX_COST}
 use Rattle.roman_cost.specs.declared.terms.Term.{Term}
 
 -- ---- pairs by their numbers
@@ -33,6 +36,10 @@ IsRelatedNumber n p = IsTrue (is_related (system_of n) (numbered_pair n p))
 -- the numbers of the related pairs, in rising order
 abbrev pub related_numbers : NamedSys → List ℕ
 related_numbers n = related_pairs (system_of n)
+
+-- the numbers are those of related pairs
+abbrev pub AreRelatedNumbers : NamedSys → List ℕ → Type 0
+AreRelatedNumbers n ps = (p : ℕ) → IsIn p ps → IsIn p (related_numbers n)
 
 -- the target allows the action at the pair with the number
 abbrev pub AllowsAt : NamedSys → ℕ → ℕ → Type 0
@@ -71,6 +78,12 @@ abbrev pub action_lines : NamedSys → CostTable → ℕ → ℕ → List ℕ
 action_lines n costs h p =
     flat_map (choice_line n (seat_costs n costs.listed) h (numbered_pair n p)) (allowed_actions (system_of n) (numbered_pair n p))
 
+-- the item is for a behaviour and an action of the system, and its cost is within the limit
+pub record IsItemFor (n : NamedSys) (item : Listed) : Type 0 where
+  pub behaviour : item.behaviour < length n.catalogue
+  pub action : item.action < length n.environment.actions
+  pub small : item.cost ≤ MAX_COST
+
 -- ---- terms and values by a table of costs
 
 -- the items were appended, if the call succeeded
@@ -93,6 +106,10 @@ terms_of_pairs n costs ranks pairs = flat_map (pair_terms (system_of n) (seat_co
 -- a row has the least costs of h requests
 abbrev pub IsRowFor : NamedSys → CostTable → ℕ → List ℕ → List ℕ → Type 0
 IsRowFor n costs h ranks row = IsCostRow (system_of n) (seat_costs n costs.listed) h ranks row
+
+-- a row has the least costs of some number of requests
+abbrev pub IsSomeRow : NamedSys → CostTable → List ℕ → List ℕ → Type 0
+IsSomeRow n costs ranks row = (h : ℕ) × IsRowFor n costs h ranks row
 
 -- the least costs of h requests at the pairs
 abbrev pub values_for : NamedSys → CostTable → ℕ → List ℕ → List ℕ

@@ -1,10 +1,13 @@
 -- The errors that name the first broken rule of a text of costs.
-use Rattle.std.specs.Prelude.{◌≡◌, ℕ, Bool, true, false, Result, Ok, Err}
+use Rattle.std.specs.Prelude.{◌≡◌, ℕ, Bool, true, false, List, Result, Ok, Err}
 use Rattle.roman_io.specs.Faults.{Rose}
+use Rattle.roman_io.specs.declared.shelf.Shelf.{Ghosts as ShelfView}
 use Rattle.roman_parts.specs.declared.error.List.{List as Place}
 use Rattle.roman_parts.specs.declared.error.List.TheVariants as list
 use Rattle.roman_parts.specs.declared.error.PartError.{PartError}
 use Rattle.roman_parts.specs.declared.error.PartError.TheVariants as part_error
+use Rattle.roman_cost.specs.Tables.{CostTable}
+use Rattle.roman_cost.specs.declared.costs.Listed.{Listed}
 use Rattle.roman_cost.specs.declared.error.CostError.{CostError}
 use Rattle.roman_cost.specs.declared.error.CostError.TheVariants as error
 
@@ -25,6 +28,10 @@ abbrev pub ReadsAs : {X Y : Type 0} → (X → Y) → Result X CostError → Res
 ReadsAs view (Ok x) reading = reading ≡ Ok (view x)
 ReadsAs view (Err e) reading = IsRefusedBy e reading
 
+-- the costs that the code reads are those that the definition lists
+abbrev pub ReadsCosts : Result CostTable CostError → Result (List Listed) PartError → Type 0
+ReadsCosts result reading = ReadsAs (λ costs. costs.listed) result reading
+
 -- the count of faults rose if the error is a fault, and stayed the same otherwise
 abbrev pub IsCostCause : ℕ → ℕ → CostError → Type 0
 IsCostCause old new error.Fault = Rose old new
@@ -35,6 +42,10 @@ IsCostCause old new error.Memory = new ≡ old
 abbrev pub HasCostCause : {T : Type 0} → ℕ → ℕ → Result T CostError → Type 0
 HasCostCause old new (Ok x) = new ≡ old
 HasCostCause old new (Err e) = IsCostCause old new e
+
+-- the same of the shelf's count of faults
+abbrev pub HasShelfCause : {X T : Type 0} → ShelfView X → X → X → Result T CostError → Type 0
+HasShelfCause F old new result = HasCostCause (F.faults old) (F.faults new) result
 
 -- the result isn't a fault
 abbrev pub IsFaultless : {T : Type 0} → Result T CostError → Type 0

@@ -1,10 +1,9 @@
 //! Fills the tables of advice.
 ghost use Rattle.std.specs.Prelude.{◌≡◌, ℕ, suc, ◌+◌, ◌*◌, ◌≤◌, take, length, slice_range, IfOk};
-ghost use Rattle.roman_model.specs.Lists.{IsIn};
 ghost use Rattle.roman_relation.specs.Greatest.{IsRelation};
 ghost use Rattle.roman_cost.specs.Advised.{HavePlaces};
 ghost use Rattle.roman_cost.specs.Filling.{CanFill};
-ghost use Rattle.roman_cost.specs.NamedWords.{related_numbers, terms_of_pairs, Appends, IsRowFor, values_for};
+ghost use Rattle.roman_cost.specs.NamedWords.{AreRelatedNumbers, related_numbers, terms_of_pairs, Appends, IsRowFor, values_for};
 
 use crate::costs::Costs;
 use crate::terms::{Term, push_pair, work_out};
@@ -75,7 +74,7 @@ pub(crate) fn work_out_others(
     spare: &mut Vec<Term>,
 ) -> Result<(), AllocError>
     requires known { CanFill relation.now costs.now ranks.now }
-    requires others { (p : ℕ) → IsIn p others.now → IsIn p (related_numbers relation.now.joint) }
+    requires others { AreRelatedNumbers relation.now.joint others.now }
     ensures { (h : ℕ) → IsRowFor relation.now.joint costs.now h ranks.now row.now →
         Appends values.old.items values.new.items (values_for relation.now.joint costs.now (suc h) others.now) result }
 {

@@ -1,10 +1,11 @@
 //! Reads costs from a text on a shelf.
-ghost use Rattle.std.specs.Prelude.{◌≡◌, ◌<◌, ◌≤◌, [], length, IfOk, IfSome};
+ghost use Rattle.std.specs.Prelude.{◌≡◌, ◌≤◌, [], length, IfOk, IfSome};
 ghost use Rattle.serde_json.specs.View.{view, items_view};
 ghost use Rattle.roman_model.specs.declared.limits.TheConstants.{MAX_BEHAVIOURS};
 ghost use Rattle.roman_read.specs.Items.{each_item};
 ghost use Rattle.roman_cost.specs.Costs.{item_for, step_for, costs_for, value_of, costs_of};
-ghost use Rattle.roman_cost.specs.Refusals.{ReadsAs, HasCostCause, IsFaultless};
+ghost use Rattle.roman_cost.specs.Refusals.{ReadsAs, ReadsCosts, HasShelfCause, IsFaultless};
+ghost use Rattle.roman_cost.specs.NamedWords.{IsItemFor};
 ghost use Rattle.roman_cost.specs.Tables.{AreOf};
 
 use crate::costs::{Costs, Listed};
@@ -33,11 +34,10 @@ pub fn read_costs<F: Shelf>(
     joint: &Joint,
 ) -> Result<Costs, CostError>
     requires few { length joint.now.catalogue ≤ MAX_BEHAVIOURS }
-    ensures costs { IfSome (F.texts shelf.old)
-        (λ texts. ReadsAs (λ costs. costs.listed) result (costs_of texts name.now joint.now)) }
+    ensures costs { IfSome (F.texts shelf.old) (λ ts. ReadsCosts result (costs_of ts name.now joint.now)) }
     ensures of { IfOk result (AreOf joint.now) }
     ensures texts { F.texts shelf.new ≡ F.texts shelf.old }
-    ensures cause { HasCostCause (F.faults shelf.old) (F.faults shelf.new) result }
+    ensures cause { HasShelfCause F.Shelf shelf.old shelf.new result }
 {
     let value = read_value(alloc, shelf, name)?;
     costs_in(alloc, joint, &value)
@@ -48,7 +48,7 @@ pub fn read_costs<F: Shelf>(
 fn read_value<F: Shelf>(alloc: Global, shelf: &mut F, name: &str) -> Result<Value, CostError>
     ensures value { IfSome (F.texts shelf.old) (λ texts. ReadsAs view result (value_of texts name.now)) }
     ensures texts { F.texts shelf.new ≡ F.texts shelf.old }
-    ensures cause { HasCostCause (F.faults shelf.old) (F.faults shelf.new) result }
+    ensures cause { HasShelfCause F.Shelf shelf.old shelf.new result }
 {
     match document(alloc, shelf, name) {
         Ok(value) => Ok(value),
@@ -62,7 +62,7 @@ fn read_value<F: Shelf>(alloc: Global, shelf: &mut F, name: &str) -> Result<Valu
 #[tactic(auto, using(crate::proofs::CostLemmas::counts), unfolding(crate::specs::Costs::costs_in))]
 fn costs_in(alloc: Global, joint: &Joint, v: &Value) -> Result<Costs, CostError>
     requires few { length joint.now.catalogue ≤ MAX_BEHAVIOURS }
-    ensures costs { ReadsAs (λ costs. costs.listed) result (costs_for joint.now (view v.now)) }
+    ensures costs { ReadsCosts result (costs_for joint.now (view v.now)) }
     ensures of { IfOk result (AreOf joint.now) }
     ensures quiet { IsFaultless result }
 {
@@ -77,7 +77,7 @@ fn costs_in(alloc: Global, joint: &Joint, v: &Value) -> Result<Costs, CostError>
 fn read_items(alloc: Global, joint: &Joint, items: &[Value]) -> Result<Costs, CostError>
     requires few { length joint.now.catalogue ≤ MAX_BEHAVIOURS }
     requires items { length items.now ≤ MAX_COSTS }
-    ensures costs { ReadsAs (λ costs. costs.listed) result
+    ensures costs { ReadsCosts result
         (each_item (step_for joint.now) 0 [] (items_view items.now)) }
     ensures of { IfOk result (AreOf joint.now) }
     ensures quiet { IsFaultless result }
@@ -114,9 +114,7 @@ fn add_item(costs: &mut Costs, joint: &Joint, v: &Value, index: u32) -> Result<(
 fn read_item(joint: &Joint, v: &Value, index: u32) -> Result<Listed, CostError>
     requires { length joint.now.catalogue ≤ MAX_BEHAVIOURS }
     ensures item { ReadsAs (λ x. x) result (item_for joint.now index (view v.now)) }
-    ensures behaviour { IfOk result (λ x. x.behaviour < length joint.now.catalogue) }
-    ensures action { IfOk result (λ x. x.action < length joint.now.environment.actions) }
-    ensures small { IfOk result (λ x. x.cost ≤ MAX_COST) }
+    ensures known { IfOk result (IsItemFor joint.now) }
     ensures quiet { IsFaultless result }
 {
     let items = parts_of(v, index)?;

@@ -2,7 +2,7 @@
 ghost use Rattle.std.specs.Prelude.{◌≡◌, ℕ, ◌<◌, length};
 ghost use Rattle.roman_joint.specs.NamedSys.{system_of};
 ghost use Rattle.roman_cost.specs.Filling.{better_of, IsOffered};
-ghost use Rattle.roman_cost.specs.NamedWords.{IsRowFor, cost_for};
+ghost use Rattle.roman_cost.specs.NamedWords.{IsSomeRow, IsRowFor, cost_for};
 ghost use Rattle.roman_cost.specs.Tables.{AreOf};
 
 use crate::costs::Costs;
@@ -23,7 +23,7 @@ pub(crate) fn cost_through(
     requires costs { AreOf joint.now costs.now }
     requires seat { k < length joint.now.seats }
     requires offered { IsOffered (system_of joint.now) p a k }
-    requires row { (h : ℕ) × IsRowFor joint.now costs.now h ranks.now row.now }
+    requires row { IsSomeRow joint.now costs.now ranks.now row.now }
     ensures { (h : ℕ) → IsRowFor joint.now costs.now h ranks.now row.now →
         result ≡ cost_for joint.now costs.now h p a k }
 {

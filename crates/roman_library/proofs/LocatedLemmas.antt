@@ -1,9 +1,7 @@
 -- Parts with their documents, and readings that stop at their first refusal.
 use Rattle.roman_library.proofs.Common.{Err, IfOk, IfSome, List, None, Ok, Option, Result, Some, ap, get_or, length, refl, subst, sym, ℕ, ◌<◌, ◌≡◌, Texts, Gives, PartError, IsLeft, ends, ◌>>=◌, Data, view, Value, Loads, Locates, Stops, located, LoadError, Part, Refusal}
 use Rattle.roman_parts.specs.declared.error.PartError.TheVariants as part_error
-use Rattle.roman_multi.specs.Combining as combining
 use Rattle.roman_library.specs.declared.refusal.LoadError.TheVariants as error
-use Rattle.roman_library.specs.declared.refusal.Part.TheVariants as part
 
 -- the value that was read of a part is the one that its definition gives
 pub located_ok : {X Y : Type 0} (view : X → Y) (document : List ℕ) (part : Part) (read : Result X PartError) (reading : Result Y PartError) (x : X)

@@ -3,7 +3,8 @@ ghost use Rattle.std.specs.Prelude.{IfOk};
 ghost use Rattle.serde_json.specs.View.{view};
 ghost use Rattle.roman_library.specs.Documents.{catalogue_in};
 ghost use Rattle.roman_library.specs.Library.{IsSmallCatalogue};
-ghost use Rattle.roman_library.specs.Refusals.{LoadsFrom, LeavesShelf};
+ghost use Rattle.roman_library.specs.PartLists.{LeavesTexts};
+ghost use Rattle.roman_library.specs.Refusals.{LoadsFrom};
 
 use crate::listing::{Listed, load_items};
 use crate::locating::located;
@@ -30,8 +31,7 @@ pub(crate) fn load_catalogue<F: Shelf>(
     ensures catalogue { LoadsFrom (F.texts shelf.old) (λ x. x.items) result
         (λ texts. catalogue_in texts document.now environment.now (view v.now)) }
     ensures known { IfOk result (λ catalogue. IsSmallCatalogue environment.now catalogue.items) }
-    ensures shelf { LeavesShelf (F.texts shelf.old) (F.texts shelf.new) (F.faults shelf.old)
-        (F.faults shelf.new) result }
+    ensures shelf { LeavesTexts F.Shelf shelf.old shelf.new result }
 {
     let items = counted_member(v, "behaviours", List::Behaviours, 0, MAX_BEHAVIOURS as u32);
     let items = located(alloc, document, Part::System, items)?;

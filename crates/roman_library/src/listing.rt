@@ -1,11 +1,11 @@
 //! Parts that a document lists, each written in place or in a file.
-ghost use Rattle.std.specs.Prelude.{◌≡◌, ◌^◌, ◌<◌, List, [], ◌∷◌, ◌++◌, length, IfOk};
+ghost use Rattle.std.specs.Prelude.{◌≡◌, ◌^◌, ◌<◌, List, [], length, IfOk};
 ghost use Rattle.serde_json.specs.View.{view, items_view};
-ghost use Rattle.roman_read.specs.Items.{each_item};
 ghost use Rattle.roman_parts.specs.Named.{NamedEnv};
 ghost use Rattle.roman_parts.specs.Reading.{Gives};
-ghost use Rattle.roman_library.specs.Documents.{PartAt, ReadAfter, listed_in, listed_step};
-ghost use Rattle.roman_library.specs.Refusals.{LoadsFrom, LeavesShelf};
+ghost use Rattle.roman_library.specs.Documents.{PartAt, ReadAfter, listed_in};
+ghost use Rattle.roman_library.specs.PartLists.{LeavesTexts, StaysWith, parts_listed};
+ghost use Rattle.roman_library.specs.Refusals.{LoadsFrom};
 
 use crate::locating::located;
 use crate::part_file::{file_of, value_at};
@@ -38,8 +38,7 @@ pub(crate) trait Listed: Drop {
         before: &[Self],
     ) -> Result<Self, PartError>
         ensures part { Gives (λ x. x) result (meaning environment.now before.now (view v.now)) }
-        ensures known { IfOk result (λ x. are_known environment.now before.now →
-            are_known environment.now (before.now ++ x ∷ [])) };
+        ensures known { IfOk result (StaysWith (are_known environment.now) before.now) };
 }
 
 /// Loads the parts in the items of a list.
@@ -53,12 +52,10 @@ pub(crate) fn load_items<P: Listed, F: Shelf>(
     requires few { length items.now < 2 ^ 32 }
     requires none { P.are_known environment.now [] }
     ensures parts { LoadsFrom (F.texts shelf.old) (λ x. x.items) result
-        (λ texts. each_item (listed_step P.part_at P.meaning texts document.now environment.now) 0 []
-        (items_view items.now)) }
+        (λ texts. parts_listed P.part_at P.meaning texts document.now environment.now (items_view items.now)) }
     ensures known { IfOk result (λ parts. P.are_known environment.now parts.items) }
     ensures count { IfOk result (λ parts. length parts.items ≡ length items.now) }
-    ensures shelf { LeavesShelf (F.texts shelf.old) (F.texts shelf.new) (F.faults shelf.old)
-        (F.faults shelf.new) result }
+    ensures shelf { LeavesTexts F.Shelf shelf.old shelf.new result }
 {
     let mut parts = Vec::with_capacity(alloc, items.len())?;
     for (i, item) in items.iter().enumerate() {
@@ -82,10 +79,8 @@ fn load_item<P: Listed, F: Shelf>(
 ) -> Result<P, LoadError>
     ensures part { LoadsFrom (F.texts shelf.old) (λ x. x) result
         (λ texts. listed_in P.part_at P.meaning texts document.now environment.now before.now number (view v.now)) }
-    ensures known { IfOk result (λ x. P.are_known environment.now before.now →
-        P.are_known environment.now (before.now ++ x ∷ [])) }
-    ensures shelf { LeavesShelf (F.texts shelf.old) (F.texts shelf.new) (F.faults shelf.old)
-        (F.faults shelf.new) result }
+    ensures known { IfOk result (StaysWith (P.are_known environment.now) before.now) }
+    ensures shelf { LeavesTexts F.Shelf shelf.old shelf.new result }
 {
     let part = P::part(number);
     match located(alloc, document, part, file_of(v))? {

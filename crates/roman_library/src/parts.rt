@@ -3,7 +3,8 @@ ghost use Rattle.std.specs.Prelude.{IfOk};
 ghost use Rattle.serde_json.specs.View.{view};
 ghost use Rattle.roman_library.specs.Documents.{environment_in, target_in};
 ghost use Rattle.roman_parts.specs.Named.{IsTarget};
-ghost use Rattle.roman_library.specs.Refusals.{LoadsFrom, LeavesShelf};
+ghost use Rattle.roman_library.specs.PartLists.{LeavesTexts};
+ghost use Rattle.roman_library.specs.Refusals.{LoadsFrom};
 
 use crate::locating::located;
 use crate::part_file::{file_of, value_at};
@@ -23,8 +24,7 @@ pub(crate) fn load_environment<F: Shelf>(
 ) -> Result<Environment, LoadError>
     ensures environment { LoadsFrom (F.texts shelf.old) (λ x. x) result
         (λ texts. environment_in texts document.now (view v.now)) }
-    ensures shelf { LeavesShelf (F.texts shelf.old) (F.texts shelf.new) (F.faults shelf.old)
-        (F.faults shelf.new) result }
+    ensures shelf { LeavesTexts F.Shelf shelf.old shelf.new result }
 {
     let part = Part::Environment;
     let member = looked(member(v, "environment"), List::Whole, 0);
@@ -49,8 +49,7 @@ pub(crate) fn load_target<F: Shelf>(
     ensures target { LoadsFrom (F.texts shelf.old) (λ x. x) result
         (λ texts. target_in texts document.now environment.now (view v.now)) }
     ensures known { IfOk result (λ target. IsTarget environment.now target) }
-    ensures shelf { LeavesShelf (F.texts shelf.old) (F.texts shelf.new) (F.faults shelf.old)
-        (F.faults shelf.new) result }
+    ensures shelf { LeavesTexts F.Shelf shelf.old shelf.new result }
 {
     let part = Part::Target(0);
     let member = looked(member(v, "target"), List::Whole, 0);

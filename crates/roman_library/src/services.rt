@@ -1,11 +1,11 @@
 //! The services of a document.
-ghost use Rattle.std.specs.Prelude.{◌≡◌, ◌<◌, ◌≤◌, [], length, map, None, IfOk};
+ghost use Rattle.std.specs.Prelude.{◌≡◌, ◌<◌, ◌≤◌, length, map, None, IfOk};
 ghost use Rattle.serde_json.specs.View.{view, items_view};
-ghost use Rattle.roman_read.specs.Items.{each_item};
 ghost use Rattle.roman_read.specs.Names.{place_of};
 ghost use Rattle.roman_parts.specs.Reading.{Gives};
 ghost use Rattle.roman_library.specs.Library.{IsService, AreFewServices, service_name};
-ghost use Rattle.roman_library.specs.Documents.{behaviour_place, state_of, frozen_of, rests_of, service_of, service_step, services_of};
+ghost use Rattle.roman_library.specs.Documents.{behaviour_place, state_of, frozen_of, rests_of, service_of, services_of};
+ghost use Rattle.roman_library.specs.PartLists.{services_listed};
 ghost use Rattle.roman_library.specs.Refusals.{LoadsQuietly};
 
 use crate::library::Service;
@@ -31,7 +31,7 @@ pub(crate) fn read_services(
     requires { length catalogue.now ≤ MAX_BEHAVIOURS }
     ensures services { LoadsQuietly (λ x. x.items) result (services_of document.now version catalogue.now
         (view v.now)) }
-    ensures known { IfOk result (λ services. AreFewServices catalogue.now services.items) }
+    ensures known { IfOk result (λ made. AreFewServices catalogue.now made.items) }
 {
     let items = counted_member(v, "services", List::Services, 0, MAX_SERVICES as u32);
     let items = located(alloc, document, Part::System, items)?;
@@ -49,8 +49,8 @@ fn read_items(
     requires items { length items.now ≤ MAX_SERVICES }
     requires catalogue { length catalogue.now ≤ MAX_BEHAVIOURS }
     ensures services { LoadsQuietly (λ x. x.items) result
-        (each_item (service_step document.now version catalogue.now) 0 [] (items_view items.now)) }
-    ensures known { IfOk result (λ services. AreFewServices catalogue.now services.items) }
+        (services_listed document.now version catalogue.now (items_view items.now)) }
+    ensures known { IfOk result (λ made. AreFewServices catalogue.now made.items) }
 {
     let mut services = Vec::with_capacity(alloc, items.len())?;
     for (i, item) in items.iter().enumerate() {

@@ -2,10 +2,11 @@
 ghost use Rattle.std.specs.Prelude.{◌≡◌, IfOk};
 ghost use Rattle.serde_json.specs.View.{view};
 ghost use Rattle.roman_parts.specs.Reading.{Gives};
-ghost use Rattle.roman_multi.specs.Combining as combining;
+ghost use Rattle.roman_multi.specs.Combining.{plain_combined};
 ghost use Rattle.roman_library.specs.Documents.{broken_rule, combined_of, parts_in, targets_in};
 ghost use Rattle.roman_library.specs.Library.{ArePartsOf, AreTargets, IsCatalogue};
-ghost use Rattle.roman_library.specs.Refusals.{LoadsFrom, LeavesShelf};
+ghost use Rattle.roman_library.specs.PartLists.{LeavesTexts};
+ghost use Rattle.roman_library.specs.Refusals.{LoadsFrom};
 
 use crate::listing::{Listed, load_items};
 use crate::locating::located;
@@ -43,11 +44,10 @@ pub(crate) fn load_parts<F: Shelf>(
     catalogue: Vec<Behaviour>,
 ) -> Result<Combined, LoadError>
     requires catalogue { IsCatalogue environment catalogue.items }
-    ensures parts { LoadsFrom (F.texts shelf.old) combining.plain_combined result
+    ensures parts { LoadsFrom (F.texts shelf.old) plain_combined result
         (λ texts. parts_in texts document.now version environment catalogue.items (view v.now)) }
-    ensures known { IfOk result (λ made. ArePartsOf catalogue.items (combining.plain_combined made)) }
-    ensures shelf { LeavesShelf (F.texts shelf.old) (F.texts shelf.new) (F.faults shelf.old)
-        (F.faults shelf.new) result }
+    ensures known { IfOk result (λ made. ArePartsOf catalogue.items (plain_combined made)) }
+    ensures shelf { LeavesTexts F.Shelf shelf.old shelf.new result }
 {
     environment.known(); // the environment is well formed
     if version == SEVERAL {
@@ -74,8 +74,7 @@ fn load_targets<F: Shelf>(
     ensures targets { LoadsFrom (F.texts shelf.old) (λ x. x.items) result
         (λ texts. targets_in texts document.now environment.now (view v.now)) }
     ensures known { IfOk result (λ targets. AreTargets environment.now targets.items) }
-    ensures shelf { LeavesShelf (F.texts shelf.old) (F.texts shelf.new) (F.faults shelf.old)
-        (F.faults shelf.new) result }
+    ensures shelf { LeavesTexts F.Shelf shelf.old shelf.new result }
 {
     let items = counted_member(v, "targets", List::Targets, FEWEST, MOST);
     let items = located(alloc, document, Part::System, items)?;
@@ -127,8 +126,8 @@ fn combine_targets(
 ) -> Result<Combined, PartError>
     requires catalogue { IsCatalogue environment.now catalogue.now }
     requires targets { AreTargets environment.now targets.now }
-    ensures parts { Gives combining.plain_combined result (combined_of environment.now catalogue.now targets.now) }
-    ensures known { IfOk result (λ made. ArePartsOf catalogue.now (combining.plain_combined made)) }
+    ensures parts { Gives plain_combined result (combined_of environment.now catalogue.now targets.now) }
+    ensures known { IfOk result (λ made. ArePartsOf catalogue.now (plain_combined made)) }
 {
     environment.known(); // the environment is well formed
     match combine(alloc, environment, catalogue, targets) {

@@ -1,5 +1,5 @@
 -- The place among the targets is the place among their names.
-use Rattle.roman_library.proofs.Common.{rules, sym, tests, ◌∙◌, YieldsList-from_slice, position_from_yields_List, position, bytes_eq, target_name}
+use Rattle.roman_library.proofs.Common.{rules, sym, tests, ◌∙◌, YieldsList-from_slice, position_from_yields_List, bytes_eq, target_name}
 use Rattle.roman_library.proofs.LibraryLemmas.{place_of-map}
 use Rattle.roman_library.proofs.names.place_of_target.Goals as goal
 

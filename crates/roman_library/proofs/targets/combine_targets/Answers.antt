@@ -1,5 +1,5 @@
 -- The combined parts are those of a library, and an error is the broken rule.
-use Rattle.roman_library.proofs.Common.{arith, rules, subst, sym, ArePartsOf}
+use Rattle.roman_library.proofs.Common.{arith, subst, sym, ArePartsOf}
 use Rattle.roman_library.proofs.TargetLemmas.{made_gives, broken_gives, combined_parts_known}
 use Rattle.roman_library.proofs.targets.combine_targets.Goals as goal
 

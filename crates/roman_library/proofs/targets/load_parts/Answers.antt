@@ -1,5 +1,5 @@
 -- The combined targets of a document are its parts.
-use Rattle.roman_library.proofs.Common.{true, parts_in, located}
+use Rattle.roman_library.proofs.Common.{parts_in}
 use Rattle.roman_library.specs.declared.refusal.Part.TheVariants as part
 use Rattle.roman_multi.specs.Combining as combining
 use Rattle.roman_library.proofs.LocatedLemmas.{located_loads}
