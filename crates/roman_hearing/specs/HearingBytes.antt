@@ -1,6 +1,7 @@
 -- How a session is read byte by byte: the invariant between two bytes of its stream.
 use Rattle.std.specs.Prelude.{◌≡◌, ℕ, ◌<◌, ◌≤◌, List, [], ◌∷◌, ◌++◌, length, take, Option, Result, Ok, Err, IsTrue, IsFalse}
 use Rattle.roman_io.specs.declared.failed.Failed.{Failed}
+use Rattle.roman_io.specs.declared.sink.Sink.{Ghosts as SinkView}
 use Rattle.roman_model.specs.Lines.{lines, ended_lines}
 use Rattle.roman_text.specs.Lines.{unfinished, line_head}
 use Rattle.roman_text.specs.Pages.{Gathered}
@@ -8,9 +9,17 @@ use Rattle.roman_session.specs.Situations.{Situation, IsSituation}
 use Rattle.roman_session.specs.declared.next.Next.{Next}
 use Rattle.roman_session.specs.declared.next.Next.TheVariants.{More, Quit}
 use Rattle.roman_hearing.specs.Told.{Told}
-use Rattle.roman_hearing.specs.Hearing.{has_quit, Cursor, cursor, Tells, TellsPrefix}
+use Rattle.roman_hearing.specs.Hearing.{has_quit, CausedBy, Cursor, cursor, Tells, TellsPrefix}
 use Rattle.roman_hearing.specs.declared.hearing.HearError.{HearError}
 use Rattle.roman_hearing.specs.declared.hearing.HearError.TheVariants.{ReadFault, WriteFault, TooLong}
+
+-- the fact holds for each line with the same head, which is therefore read as this one
+abbrev pub ForSameHead : List ℕ → (List ℕ → Type 0) → Type 0
+ForSameHead line Holds = (whole : List ℕ) → line_head line ≡ line_head whole → Holds whole
+
+-- the sink's count of faults rose if `WriteFault` is returned, and stayed the same otherwise, in words for contracts at a bound `O: Sink`
+abbrev pub CausedBySink : {X T : Type 0} → SinkView X → X → X → Result T HearError → Type 0
+CausedBySink O old new result = CausedBy WriteFault (O.faults old) (O.faults new) result
 
 -- reader state within a line: the page holds the replies that aren't written yet, and the bytes of the line are held, truncated
 -- once they can't parse
@@ -70,9 +79,21 @@ HearsPiece room old taken piece new (Err ReadFault) = ⊥
 HearsPiece room old taken piece new (Err WriteFault) = FailsIn old (taken ++ take room piece) new.cursor
 HearsPiece room old taken piece new (Err TooLong) = IsHearing old (taken ++ take room piece) new × (room < length piece)
 
+-- the bytes were read, from one reader state to another, whatever bytes were taken before
+abbrev pub HearsBytesAfter : ReaderState → List ℕ → ReaderState → Result Next Failed → Type 0
+HearsBytesAfter before bytes after result = (old : Cursor) (taken : List ℕ) → IsHearing old taken before → HearsBytes old taken bytes after result
+
+-- the first `room` bytes of a piece were read, whatever bytes were taken before
+abbrev pub HearsPieceAfter : ℕ → ReaderState → List ℕ → ReaderState → Result Next HearError → Type 0
+HearsPieceAfter room before piece after result = (old : Cursor) (taken : List ℕ) → IsHearing old taken before → HearsPiece room old taken piece after result
+
 -- the last line, which has no newline, was answered
 abbrev pub HearsRest : Cursor → List ℕ → Cursor → Result (Unit {0}) HearError → Type 0
 HearsRest old taken new (Ok x) = Tells old (lines taken) new
 HearsRest old taken new (Err ReadFault) = ⊥
 HearsRest old taken new (Err WriteFault) = FallsShort old (lines taken) new
 HearsRest old taken new (Err TooLong) = ⊥
+
+-- the last line was answered, whatever bytes were taken before it
+abbrev pub HearsRestAfter : ReaderState → Cursor → Result (Unit {0}) HearError → Type 0
+HearsRestAfter before after result = (old : Cursor) (taken : List ℕ) → IsHearing old taken before → HearsRest old taken after result

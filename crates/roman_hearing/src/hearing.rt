@@ -1,14 +1,13 @@
 //! Sessions whose lines are read from a stream.
-ghost use Rattle.std.specs.Prelude.{◌≡◌, ℕ, ◌+◌, ◌-◌, ◌⊎◌, ◌∷◌, ◌++◌, List, [], IfOk, IsErrOf, OnOk};
-ghost use Rattle.roman_io.specs.Faults.{HasCause};
+ghost use Rattle.std.specs.Prelude.{◌≡◌, ◌+◌, ◌-◌, ◌⊎◌, ◌∷◌, ◌++◌, [], IfOk, IsErrOf, OnOk};
+ghost use Rattle.roman_io.specs.SinkCalls.{FailsWith};
 ghost use Rattle.roman_io.specs.Source.{IsAtEnd, GaveAtMost};
 ghost use Rattle.roman_model.specs.Lines.{IsLine};
-ghost use Rattle.roman_text.specs.Lines.{line_head};
 ghost use Rattle.roman_session.specs.Situations.{IsSituation};
-ghost use Rattle.roman_session.specs.Answering.{AnsweredOn, next_of};
+ghost use Rattle.roman_session.specs.Answering.{AnswersOn, IsNextOf};
 ghost use Rattle.roman_hearing.specs.Known.{AreBehaviours};
-ghost use Rattle.roman_hearing.specs.Hearing.{GaveQuit, Cursor, cursor, stream_state, IsHeardOut, IsCutOff, GoesOn, StopsShort, TellsPrefixOfAll, CausedBy};
-ghost use Rattle.roman_hearing.specs.HearingBytes.{reader_state, IsHearing, HearsBytes, HearsPiece, HearsRest};
+ghost use Rattle.roman_hearing.specs.Hearing.{GaveQuit, cursor, stream_state, IsHeardOut, IsCutOff, GoesOn, StopsShort, TellsPrefixOfAll, CausedBy};
+ghost use Rattle.roman_hearing.specs.HearingBytes.{CausedBySink, ForSameHead, HearsBytesAfter, HearsPieceAfter, HearsRestAfter, reader_state};
 
 use roman_io::{Failed, Sink, Source, Steps};
 use roman_model::{MAX_SESSION_BYTES, PIECE_BYTES};
@@ -117,11 +116,10 @@ fn hear_piece<O: Sink, L: Ledger>(
     out: &mut O,
     steps: &mut Steps<L>,
 ) -> Result<Next, HearError>
-    ensures hears { (old : Cursor) (taken : List ℕ) →
-        IsHearing old taken (reader_state session.old (O.written out.old) page.old splitter.old) →
-        HearsPiece room old taken piece.now (reader_state session.new (O.written out.new) [] splitter.new) result }
+    ensures hears { HearsPieceAfter room (reader_state session.old (O.written out.old) page.old splitter.old)
+        piece.now (reader_state session.new (O.written out.new) [] splitter.new) result }
     ensures empty { IfOk result (λ _. page.new ≡ []) }
-    ensures cause { CausedBy HearError.WriteFault (O.faults out.old) (O.faults out.new) result }
+    ensures cause { CausedBySink O.Sink out.old out.new result }
 {
     let due = piece.len().min(room);
     let Ok(next) = hear_bytes(session, splitter, &piece[..due], page, out, steps) else {
@@ -146,10 +144,9 @@ fn hear_bytes<O: Sink, L: Ledger>(
     out: &mut O,
     steps: &mut Steps<L>,
 ) -> Result<Next, Failed>
-    ensures hears { (old : Cursor) (taken : List ℕ) →
-        IsHearing old taken (reader_state session.old (O.written out.old) page.old splitter.old) →
-        HearsBytes old taken bytes.now (reader_state session.new (O.written out.new) page.new splitter.new) result }
-    ensures cause { HasCause (O.faults out.old) (O.faults out.new) result }
+    ensures hears { HearsBytesAfter (reader_state session.old (O.written out.old) page.old splitter.old)
+        bytes.now (reader_state session.new (O.written out.new) page.new splitter.new) result }
+    ensures cause { FailsWith O.Sink out.old out.new result }
 {
     let mut rest = bytes;
     'lines: while let Some((part, after)) = split_line(rest) {
@@ -173,11 +170,9 @@ fn hear_ended<O: Sink, L: Ledger>(
     steps: &mut Steps<L>,
 ) -> Result<Next, Failed>
     requires { IsLine part.now }
-    ensures hears { (old : Cursor) (taken : List ℕ) →
-        IsHearing old taken (reader_state session.old (O.written out.old) page.old splitter.old) →
-        HearsBytes old taken (part.now ++ 10 ∷ [])
-        (reader_state session.new (O.written out.new) page.new splitter.new) result }
-    ensures cause { HasCause (O.faults out.old) (O.faults out.new) result }
+    ensures hears { HearsBytesAfter (reader_state session.old (O.written out.old) page.old splitter.old)
+        (part.now ++ 10 ∷ []) (reader_state session.new (O.written out.new) page.new splitter.new) result }
+    ensures cause { FailsWith O.Sink out.old out.new result }
 {
     if !splitter.rest() {
         return hear_line(session, part, page, out, steps);
@@ -198,10 +193,9 @@ fn hear_rest<O: Sink, L: Ledger>(
     steps: &mut Steps<L>,
 ) -> Result<(), HearError>
     requires { page.old ≡ [] }
-    ensures hears { (old : Cursor) (taken : List ℕ) →
-        IsHearing old taken (reader_state session.old (O.written out.old) page.old splitter.now) →
-        HearsRest old taken (cursor session.new (O.written out.new)) result }
-    ensures cause { CausedBy HearError.WriteFault (O.faults out.old) (O.faults out.new) result }
+    ensures hears { HearsRestAfter (reader_state session.old (O.written out.old) page.old splitter.now)
+        (cursor session.new (O.written out.new)) result }
+    ensures cause { CausedBySink O.Sink out.old out.new result }
 {
     if !splitter.rest() {
         return Ok(());
@@ -223,12 +217,11 @@ fn hear_line<O: Sink, L: Ledger>(
     out: &mut O,
     steps: &mut Steps<L>,
 ) -> Result<Next, Failed>
-    ensures step { (whole : List ℕ) → line_head line.now ≡ line_head whole →
-        AnsweredOn session.old whole session.new (O.written out.old) (O.written out.new) page.old page.new result }
-    ensures next { (whole : List ℕ) → line_head line.now ≡ line_head whole →
-        IfOk result (λ next. next ≡ next_of whole) }
+    ensures step { ForSameHead line.now (λ whole.
+        AnswersOn O.Sink session.old whole session.new out.old out.new page.old page.new result) }
+    ensures next { ForSameHead line.now (λ whole. IsNextOf whole result) }
     ensures known { IsSituation session.new }
-    ensures cause { HasCause (O.faults out.old) (O.faults out.new) result }
+    ensures cause { FailsWith O.Sink out.old out.new result }
 {
     keep_shapes();
     let answered = session.answer_on(line, page, out, steps);

@@ -1,5 +1,5 @@
 -- Consequences of the step of an answer.
-use Rattle.roman_session.proofs.Common.{◌≡◌, ℕ, List, [], ◌++◌, Option, Result, Ok, Err, inl, inr, refl, sym, ap, subst, Puts, Puts-after_Gathered, reply_text, Situation, present_system, IsSituation, IsPhase, Delegated, Gathers, LineShape, observe, shape_of, LineError, Step, StepOn, StepBy, Answered, AnsweredOn, DoneOn, ObservedStaysGreat, IsGreat, shown, related_great, TurnsInto}
+use Rattle.roman_session.proofs.Common.{arith, ◌≡◌, ℕ, List, [], ◌++◌, Option, Result, Ok, Err, inl, inr, refl, sym, ap, subst, Puts, Puts-after_Gathered, reply_text, Situation, IsSituation, IsPhase, Delegated, Gathers, LineShape, observe, shape_of, LineError, Step, StepOn, StepBy, Answered, AnsweredOn, DoneOn, ObservedStaysGreat, IsGreat, shown, related_great, TurnsInto}
 use Rattle.roman_text.specs.declared.replies.Reply.TheVariants as reply
 use Rattle.roman_session.proofs.StepLemmas.{delegation_serves}
 
@@ -33,9 +33,7 @@ step_unshaped old line why is = subst (λ (r : Result LineShape LineError). Step
 
 -- the pair of an open delegation is related
 stays_great : (old new : Situation) (a k : ℕ) → IsSituation old → old.phase ≡ Delegated a k → shown new ≡ shown old → IsGreat (shown new)
-stays_great old new a k is delegated same =
-    let phase = subst (IsPhase old) delegated is.phase in
-    subst IsGreat (sym same) (related_great (present_system old) old.here is.parts.system is.here phase.0.0)
+stays_great old new a k is delegated same = grind (arith, related_great)
 
 -- the pair is related after an outcome of the delegate was observed
 pub observed_great : (old new : Situation) (state env text : List ℕ) (a k : ℕ) → IsSituation old → old.phase ≡ Delegated a k → TurnsInto (shown old) (Ok (observe state env)) text (shown new) → IsGreat (shown new)

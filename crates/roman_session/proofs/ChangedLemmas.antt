@@ -154,12 +154,7 @@ module _ (a : Inside) (s : Situation) (k : ℕ) (view : situation_in a ≡ s) (l
 
   -- a change that suits the service passes the relation's test
   pub suits_inside : (change : ServiceChange) → Suits change (shown s) k → SuitsSeat change (slice_get (joint.system_of a.relation.joint).seats k)
-  suits_inside change suits = subst (λ (t : Situation). SuitsSeat change (slice_get (present_system t).seats k)) (sym view) (at change suits)
-    where
-      at : (change : ServiceChange) → Suits change (shown s) k → SuitsSeat change (slice_get (present_system s).seats k)
-      at kind.Freeze (seat, there, ready) = ap is_ready there ∙ ap not ready
-      at kind.Thaw unready = seat_unready s k l unready
-      at kind.Die each = tt
+  suits_inside change suits = grind (arith, seat_unready)
 
   module _ (change : ServiceChange) (relation : Relation) (states : List ℕ) (tally : Tally) (ok : IsSession a)
       (repaired : (seat : Seat) → slice_get (joint.system_of a.relation.joint).seats k ≡ Some seat → IsRepaired (change_at change k seat) a.relation.joint a.relation.order relation.joint relation.order tally)

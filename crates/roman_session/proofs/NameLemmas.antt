@@ -1,5 +1,5 @@
 -- Places of names.
-use Rattle.roman_session.proofs.Common.{◌≡◌, ℕ, ◌+◌, ◌<◌, ◌≤◌, List, [], Some, None, get_or, slice_get, arith, bytes_eq, IsIn, position-Some, slice_get-get_or, place_of, bytes_eq-Decides, Place, Option, refl, none_absent, get_in}
+use Rattle.roman_session.proofs.Common.{◌≡◌, ℕ, List, [], Some, None, get_or, slice_get, arith, bytes_eq, IsIn, position-Some, slice_get-get_or, place_of, bytes_eq-Decides, Place, Option, refl, none_absent, get_in}
 
 -- the name is at its place
 pub place_there : (names : List (List ℕ)) (name : List ℕ) (i : ℕ) → place_of names name ≡ Some i → slice_get names i ≡ Some name

@@ -101,18 +101,13 @@ observes s new state env x text can acts list = (
 -- no step leads to the observed states
 pub observes_never : (a : Inside) (s : Situation) (x : Observation) (name bs : List ℕ) → situation_in a ≡ s → bs ≡ a.states.items →
     (CanMove (system_of a.relation.joint) (record { t = a.target; e = a.env; bs = bs }) x.action x.seat x.state x.env → ⊥) → Observes s name x (reply_text reply.Impossible) s
-observes_never a s x name bs view same never =
-    let none = subst (λ (bs : List ℕ). CanMove (system_of a.relation.joint) (record { t = a.target; e = a.env; bs = bs }) x.action x.seat x.state x.env → ⊥) same never in
-    inr (subst (λ (s : Situation). CanMove (present_system s) s.here x.action x.seat x.state x.env → ⊥) view none, (refl, refl))
+observes_never a s x name bs view same never = grind arith
 
 -- the pair moves to the observed states
 pub observes_moved : (a : Inside) (s new : Situation) (x : Observation) (to : ℕ) (name bs text : List ℕ) → situation_in a ≡ s → bs ≡ a.states.items →
     TStep (system_of a.relation.joint) a.target a.env x.action to x.env × CanMove (system_of a.relation.joint) (record { t = a.target; e = a.env; bs = bs }) x.action x.seat x.state x.env →
     new ≡ record s { here = moved s.here to x.env x.seat x.state; phase = Idle } → text ≡ reply_text (reply.Now (name_at s.parts.target.states to) name) → Observes s name x text new
-observes_moved a s new x to name bs text view same (target, system) becomes says =
-    let can = subst (λ (bs : List ℕ). CanMove (system_of a.relation.joint) (record { t = a.target; e = a.env; bs = bs }) x.action x.seat x.state x.env) same system in
-    let steps = subst (λ (s : Situation). TStep (present_system s) s.here.t s.here.e x.action to x.env × CanMove (present_system s) s.here x.action x.seat x.state x.env) view (target, can) in
-    inl (steps.1, (to, steps.0, (says, ap shown becomes)))
+observes_moved a s new x to name bs text view same (target, system) becomes says = grind arith
 
 -- ---- freeze, thaw, die
 
@@ -143,6 +138,4 @@ reports s is = ((reports_both s (report_text s.parts s.here) is refl, refl), ref
 
 -- the step of an explanation
 pub explains : (old new : Situation) → IsSituation old → (IsGreat (shown old) → ⊥) → new ≡ old → StepOn old explain (explain_text (present_system old) (names_in old.parts) old.list old.here) new
-explains old new is lost same =
-    let text = explain_text (present_system old) (names_in old.parts) old.list old.here in
-    subst (StepOn old explain text) (sym same) (inr (lost, (refutes old text is lost refl, refl)), (inr refl, refl))
+explains old new is lost same = grind (arith, refutes)

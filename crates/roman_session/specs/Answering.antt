@@ -6,7 +6,7 @@ use Rattle.roman_io.specs.declared.sink.Sink.{Ghosts as SinkView}
 use Rattle.roman_text.specs.Pages.{Gathers}
 use Rattle.roman_text.specs.Shapes.{LineShape, observe, shape_of}
 use Rattle.roman_text.specs.declared.errors.LineError.{LineError}
-use Rattle.roman_session.specs.Situations.{Situation, present_system}
+use Rattle.roman_session.specs.Situations.{Situation, present_system, IsPhase}
 use Rattle.roman_session.specs.States.{IsGreat, MayRequest}
 use Rattle.roman_session.specs.Steps.{Step, StepOn, shown, is_quit}
 use Rattle.roman_session.specs.declared.phase.Phase.TheVariants.{Delegated}
@@ -33,7 +33,11 @@ pub record DoneOn {T E : Type 0} (old : Situation) (shape : LineShape) (new : Si
   pub step : StepOn old shape text new
   pub gathers : Gathers before after holds (held ++ text) result
 
--- such an answer to a line, in words for contracts at a bound `O: Sink`
+-- such an answer to a line that is written at once, in words for contracts at a bound `O: Sink`
+abbrev pub AnswersTo : {X T E : Type 0} → SinkView X → Situation → List ℕ → Situation → X → X → Result T E → Type 0
+AnswersTo O old line new out out_now result = Answered old line new (O.written out) (O.written out_now) result
+
+-- such an answer to a line that is pushed on a page, in words for contracts at a bound `O: Sink`
 abbrev pub AnswersOn : {X T E : Type 0} → SinkView X → Situation → List ℕ → Situation → X → X → List ℕ → List ℕ → Result T E → Type 0
 AnswersOn O old line new out out_now held holds result = AnsweredOn old line new (O.written out) (O.written out_now) held holds result
 
@@ -48,6 +52,10 @@ NamesSome old = (a : ℕ) → IsGreat (shown old) → MayRequest (shown old) a �
 -- after an outcome of a delegated request is observed, the new pair is related
 abbrev pub ObservedStaysGreat : Situation → List ℕ → Situation → Type 0
 ObservedStaysGreat old line new = (state env : List ℕ) (a k : ℕ) → shape_of line ≡ Ok (observe state env) → old.phase ≡ Delegated a k → IsGreat (shown new)
+
+-- the situation's open request can be served, and its delegate is offered for it
+abbrev pub HasPhase : Situation → Type 0
+HasPhase s = IsPhase s s.phase
 
 -- whether a session continues after an event: it ends exactly at `quit`
 abbrev pub next_after : Result LineShape LineError → Next

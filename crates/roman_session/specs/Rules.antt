@@ -2,6 +2,7 @@
 use Rattle.std.specs.Prelude.{◌≡◌, ℕ, ◌<◌, ◌≤◌, ◌⊎◌, Bool, true, false, not, List, [], ◌∷◌, ◌++◌, map, length, Result, Ok, Err, Some, IsTrue, IsFalse, slice_get}
 use Rattle.roman_model.specs.Lists.{IsIn}
 use Rattle.roman_model.specs.Change.{Join}
+use Rattle.roman_model.specs.System as model
 use Rattle.roman_model.specs.Explanation.{seat_names}
 use Rattle.roman_model.specs.declared.limits.TheConstants.{MAX_SERVICES}
 use Rattle.roman_read.specs.Names.{is_name}
@@ -12,6 +13,10 @@ use Rattle.roman_text.specs.declared.replies.Reply.TheVariants as reply
 use Rattle.roman_joint.specs.NamedSys.{NamedSys, beh_at, system_of, seat_of, cells}
 use Rattle.roman_joint.specs.Names.{seat_name, beh_name, states_of_behaviour, names_in}
 use Rattle.roman_joint.specs.declared.seat.Seat.{Seat}
+use Rattle.roman_relation.specs.Greatest.{IsUpToDate}
+use Rattle.roman_relation.specs.declared.relation.Relation.{Relation}
+use Rattle.roman_repair.specs.Repairs.{Repairs}
+use Rattle.roman_repair.specs.declared.tally.Tally.{Tally}
 use Rattle.roman_generator.specs.declared.observation.Observation.{Observation}
 use Rattle.roman_session.specs.declared.events.Delegation.{Delegation}
 use Rattle.roman_session.specs.declared.events.JoinWords.{JoinWords}
@@ -19,7 +24,7 @@ use Rattle.roman_session.specs.declared.events.Joining.{Joining}
 use Rattle.roman_session.specs.declared.events.Jump.{Jump}
 use Rattle.roman_session.specs.declared.events.ServiceChange.{ServiceChange}
 use Rattle.roman_session.specs.declared.phase.Phase.TheVariants.{Idle, Offered, Delegated}
-use Rattle.roman_session.specs.Changes.{Suits}
+use Rattle.roman_session.specs.Changes.{Suits, SuitsSeat, change_at, services_after}
 use Rattle.roman_session.specs.Situations.{Situation}
 use Rattle.roman_session.specs.States.{State, IsGreat, MayRequest, ServesHere}
 use Rattle.roman_session.specs.Words.{CountsLost}
@@ -76,6 +81,18 @@ pub record CanChangeService (change : ServiceChange) (s : Situation) (service : 
   pub at : IsAt s service k
   pub idle : s.phase ≡ Idle
   pub suits : Suits change (shown s) k
+
+-- the service at place k of a relation's system, and its state, can be changed in this way
+pub record CanChangeAt (change : ServiceChange) (k : ℕ) (relation : Relation) (states : List ℕ) : Type 0 where
+  pub up_to_date : IsUpToDate relation
+  pub seat : k < length relation.joint.seats
+  pub state : k < length states
+  pub suits : SuitsSeat change (slice_get (system_of relation.joint).seats k)
+
+-- the service at place k was changed, and the relation was repaired
+pub record IsChangedAt (change : ServiceChange) (k : ℕ) (old new : Relation) (tally : Tally) : Type 0 where
+  pub joint : new.joint ≡ record old.joint { seats = services_after change old.joint.seats k }
+  pub repaired : (seat : model.Seat) → slice_get (system_of old.joint).seats k ≡ Some seat → Repairs (change_at change k seat) old new tally
 
 -- the event of the words of a `join`
 abbrev pub join_of : JoinWords → LineShape

@@ -1,6 +1,6 @@
 -- Re-exports the names that the proof pages of this crate use from other crates. Declares nothing.
 pub use Rattle.std.proofs.Common.{All, List, [], add-one, ap, ap₂, arith, get_or, length, length-append, length-take-le, map, min, nat_le, refl, string_bytes, subst, suc, sym, take, vec_capacity, zero, ℕ, ◌%◌, ◌*◌, ◌++◌, ◌+◌, ◌-◌, ◌/◌, ◌<◌, ◌^◌, ◌∙◌, ◌∷◌, ◌≡◌, ◌≤◌}
-pub use Rattle.std.proofs.Math.Nat.{min-eq_left, min-eq_right, mul-le-mul_right, pow-suc, pow-zero}
+pub use Rattle.std.proofs.Math.Nat.{min-eq_left, min-eq_right, pow-suc, pow-zero}
 pub use Rattle.std.proofs.lemmas.Bool.{leb-false, leb-true}
 pub use Rattle.std.proofs.lemmas.Int.Digits.{digits_value_push}
 pub use Rattle.std.proofs.lemmas.List.{map_push, take_more}

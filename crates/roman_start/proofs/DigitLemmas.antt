@@ -1,5 +1,5 @@
 -- Numbers by their decimal digits: one more digit, and the digits of a product.
-use Rattle.roman_start.proofs.Common.{◌≡◌, ℕ, ◌+◌, ◌*◌, ◌/◌, ◌%◌, ◌^◌, ◌<◌, ◌≤◌, min, List, [], ◌∷◌, ◌++◌, length, length-append, get_or, take, sym, ap, ap₂, ◌∙◌, arith, add-one, zero, suc, nat_le, length-take-le, take_more, AllDigits, digits_value, product_of, AreDigits, number_with_digits, pow-zero, pow-suc, min-eq_left, min-eq_right, mul-le-mul_right, leb-true, leb-false, digit_value, digits_value_push, All-push, digit_value_digit, by_test}
+use Rattle.roman_start.proofs.Common.{◌≡◌, ℕ, ◌+◌, ◌*◌, ◌/◌, ◌%◌, ◌^◌, ◌<◌, min, List, [], ◌∷◌, ◌++◌, length, length-append, get_or, take, sym, ap, ap₂, ◌∙◌, arith, add-one, zero, suc, nat_le, length-take-le, take_more, AllDigits, digits_value, product_of, AreDigits, number_with_digits, pow-zero, pow-suc, min-eq_left, min-eq_right, leb-true, leb-false, digit_value, digits_value_push, All-push, digit_value_digit, by_test}
 
 number_push : (ds : List ℕ) (d : ℕ) → number_with_digits (ds ++ d ∷ []) ≡ number_with_digits ds + d * 10 ^ length ds
 number_push [] d = omega (arith, ap (λ x. d * x) (pow-zero 10))
@@ -67,8 +67,6 @@ cut_more ns k n other most cut l at is = ap (λ (c : ℕ). min (c * n) most) is 
 
 -- the carry stays small
 pub small_carry : (d f carry : ℕ) → d < 10 → f < 2 ^ 32 → carry < 2 ^ 40 → (d * f + carry) / 10 < 2 ^ 40
-small_carry d f carry digit factor small =
-    let most : d * f ≤ 9 * f = mul-le-mul_right f (omega arith) in
-    omega arith
+small_carry d f carry digit factor small = grind arith
 
 pub ruleset times_steps = (carry_step, times_step, digits_push, small_carry, length-append, add-one)

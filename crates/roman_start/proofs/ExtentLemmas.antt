@@ -1,5 +1,5 @@
 -- The product of the sizes of a library is the number of cells of its system.
-use Rattle.roman_start.proofs.Common.{◌≡◌, ℕ, ◌+◌, ◌*◌, ◌<◌, List, [], ◌∷◌, ◌++◌, map, length, get_or, take, refl, sym, ap, ap₂, ◌∙◌, subst, arith, All, take_more, map_push, product_of, states_in, sizes_of, NamedBeh, cells, system_of, seat_beh_read, PlainLibrary, IsService, Service, parts_of}
+use Rattle.roman_start.proofs.Common.{◌≡◌, ℕ, ◌+◌, ◌<◌, List, [], ◌∷◌, ◌++◌, map, length, get_or, take, refl, sym, ap, ap₂, ◌∙◌, subst, arith, All, take_more, map_push, product_of, states_in, sizes_of, NamedBeh, cells, system_of, seat_beh_read, PlainLibrary, IsService, Service, parts_of}
 use Rattle.roman_start.proofs.DigitLemmas.{product_push}
 
 -- the size of one more service

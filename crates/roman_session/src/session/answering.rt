@@ -2,10 +2,9 @@
 ghost use Rattle.std.specs.Prelude.{◌≡◌, ◌++◌, Ok};
 ghost use Rattle.roman_io.specs.SinkCalls.{FailsWith};
 ghost use Rattle.roman_text.specs.Shapes.{explain, shape_of_event};
-ghost use Rattle.roman_session.specs.Situations.{IsPhase};
 ghost use Rattle.roman_session.specs.States.{IsGreat};
 ghost use Rattle.roman_session.specs.Steps.{shown, explanation_of};
-ghost use Rattle.roman_session.specs.Answering.{Answered, NamesSome, ObservedStaysGreat, next_after, AnswersOn, DoesOn, IsNextOf};
+ghost use Rattle.roman_session.specs.Answering.{AnswersTo, NamesSome, ObservedStaysGreat, HasPhase, next_after, AnswersOn, DoesOn, IsNextOf};
 ghost use Rattle.roman_text.specs.Pages.{Pushes};
 
 use super::Session;
@@ -29,7 +28,8 @@ fn next_after(event: Event<'_>) -> Next
 impl Session {
     /// Answers a line: any bytes without a newline. Changes the session by the line's event, and
     /// writes the whole reply before it returns. A refused line changes nothing. Returns `Quit`
-    /// exactly when the line is `quit`. Allocates no memory.
+    /// exactly when the line is `quit`. Allocates no memory. An `offer` names a service, and after
+    /// a possible outcome the current pair is related.
     ///
     /// Fails only when the sink's count of faults rose. The session has then changed as without the
     /// failure, and a prefix of the reply was written.
@@ -40,14 +40,12 @@ impl Session {
         out: &mut O,
         steps: &mut Steps<L>,
     ) -> Result<Next, Failed>
-        ensures step { Answered self.old line.now self.new (O.written out.old) (O.written out.new) result }
+        ensures step { AnswersTo O.Sink self.old line.now self.new out.old out.new result }
         ensures next { IsNextOf line.now result }
         ensures cause { FailsWith O.Sink out.old out.new result }
-
-        // An `offer` names a service, and after a possible outcome the current pair is related.
         ensures offered { NamesSome self.old }
         ensures related { ObservedStaysGreat self.old line.now self.new }
-        ensures phase { IsPhase self.new self.new.phase }
+        ensures phase { HasPhase self.new }
     {
         self.known(); // the situation is well formed
         let mut page = Page::new();

@@ -1,13 +1,9 @@
 //! Freezes, thaws, removes and adds services.
-ghost use Rattle.std.specs.Prelude.{◌≡◌, ◌<◌, length, Some, slice_get, vec_capacity};
+ghost use Rattle.std.specs.Prelude.{◌≡◌, vec_capacity};
 ghost use Rattle.roman_io.specs.SinkCalls.{FailsWith};
-ghost use Rattle.roman_model.specs.System.{Seat};
-ghost use Rattle.roman_joint.specs.NamedSys.{system_of};
-ghost use Rattle.roman_relation.specs.Greatest.{IsRelation};
-ghost use Rattle.roman_repair.specs.Repairs.{IsRepaired};
 ghost use Rattle.roman_text.specs.Replies.{reply_text};
-ghost use Rattle.roman_session.specs.Changes.{SuitsSeat, change_at, event_of, services_after, states_after};
-ghost use Rattle.roman_session.specs.Rules.{Joins, IsNewcomer, join_of};
+ghost use Rattle.roman_session.specs.Changes.{event_of, states_after};
+ghost use Rattle.roman_session.specs.Rules.{CanChangeAt, IsChangedAt, Joins, IsNewcomer, join_of};
 ghost use Rattle.roman_session.specs.Answering.{DoesOn};
 
 use super::{Session, number_of};
@@ -37,15 +33,8 @@ fn change_service<L: Ledger>(
     k: u8,
     steps: &mut Steps<L>,
 ) -> Tally
-    requires relation { IsRelation relation.old.joint relation.old.order }
-    requires seat { k < length relation.old.joint.seats }
-    requires state { k < length states.old.items }
-    requires suits { SuitsSeat change (slice_get (system_of relation.old.joint).seats k) }
-    ensures joint { relation.new.joint
-        ≡ record relation.old.joint { seats = services_after change relation.old.joint.seats k } }
-    ensures repaired { (seat : Seat) → slice_get (system_of relation.old.joint).seats k ≡ Some seat →
-        IsRepaired (change_at change k seat) relation.old.joint relation.old.order
-        relation.new.joint relation.new.order result }
+    requires { CanChangeAt change k relation.old states.old.items }
+    ensures relation { IsChangedAt change k relation.old relation.new result }
     ensures states { states.new.items ≡ states_after change states.old.items k }
     ensures room { vec_capacity states.new ≡ vec_capacity states.old }
 {

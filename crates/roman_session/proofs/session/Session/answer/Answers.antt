@@ -1,4 +1,4 @@
-use Rattle.roman_session.proofs.Common.{err_from_is_err_and}
+use Rattle.roman_session.proofs.Common.{arith, err_from_is_err_and}
 use Rattle.roman_session.proofs.AnswerLemmas.{stays_related, answered_whole}
 use Rattle.roman_session.proofs.session.Session.answer.Goals as goal
 
@@ -7,9 +7,7 @@ returns-in_err-next-clause-related g c =
     stays_related c.args.self.now c.answer_on-answered.new.self c.args.line.now _ c.known.ensures c.answer_on-answered.ensures.step.step
 
 pub returns-in_err-flush-clause-step : goal.returns-in_err-flush-clause-step
-returns-in_err-flush-clause-step g c =
-    let p = err_from_is_err_and c.from_residual-in_err-flush.result c.from_residual-in_err-flush.ensures.1 in
-    rw p.1 (answered_whole _ _ _ _ _ _ _ _ _ _ c.new-page.ensures.empty c.in_ok-next.ensures.step c.in_err-flush.ensures.puts)
+returns-in_err-flush-clause-step g c = grind (arith, err_from_is_err_and, answered_whole)
 
 pub returns-in_err-flush-clause-related : goal.returns-in_err-flush-clause-related
 returns-in_err-flush-clause-related g c =

@@ -13,11 +13,7 @@ returns-in_err-push_reply-in-Err-clause-step g c =
     })
 
 pub returns-in-Err-clause-step : goal.returns-in-Err-clause-step
-returns-in-Err-clause-step g c = record {
-  text = reply_text reply.ErrorLine;
-  step = step_unshaped c.args.self.now c.args.line.now c.in-Err.field-0 c.in-Err.ensures.shape;
-  gathers = c.in_ok-push_reply-in-Err.ensures.gathers;
-}
+returns-in-Err-clause-step g c = grind (arith, step_unshaped)
 
 pub returns-in_err-answer_event-clause-step : goal.returns-in_err-answer_event-clause-step
 returns-in_err-answer_event-clause-step g c = grind (arith, err_from_is_err_and, step_by_shape)

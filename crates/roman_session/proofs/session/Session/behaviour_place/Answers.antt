@@ -1,12 +1,10 @@
-use Rattle.roman_session.proofs.Common.{◌≡◌, List, Some, map, slice_get, refl, ap, ◌∙◌, subst, rules, NamedBeh, NamedSys, Place, beh_name}
+use Rattle.roman_session.proofs.Common.{arith, List, map, refl, ap, ◌∙◌, subst, rules, NamedBeh, NamedSys, Place, beh_name}
 use Rattle.roman_session.proofs.NameLemmas.{place_there, no_name_there}
 use Rattle.roman_session.proofs.SituationLemmas.{parts_shown}
 use Rattle.roman_session.proofs.session.Session.behaviour_place.Goals as goal
 
 pub returns-in-Some-clause-finds : goal.returns-in-Some-clause-finds
-returns-in-Some-clause-finds c =
-    let catalogue = c.catalogue.ensures ∙ ap (λ (n : NamedSys). n.catalogue) (parts_shown c.self.inside c.args.self.now c.self.view_is) in
-    subst (λ (behs : List NamedBeh). slice_get (map beh_name behs) c.in-Some.i ≡ Some c.args.name.now) catalogue (place_there (map beh_name c.catalogue.result.now) c.args.name.now c.in-Some.i (search rules))
+returns-in-Some-clause-finds c = grind (arith, parts_shown, place_there)
 
 pub returns-in-None-clause-finds : goal.returns-in-None-clause-finds
 returns-in-None-clause-finds c =

@@ -1,12 +1,9 @@
-use Rattle.roman_session.proofs.Common.{Bool, List, ℕ, map, not, false, inl, inr, refl, sym, ap, ◌∙◌, subst, rules, err_from_is_err_and, IsIn, Tests, seat_name}
+use Rattle.roman_session.proofs.Common.{arith, Bool, List, ℕ, map, not, false, inl, inr, refl, sym, ap, ◌∙◌, subst, rules, err_from_is_err_and, IsIn, Tests, seat_name}
 use Rattle.roman_session.proofs.RuleLemmas.{no_name, found_tests}
 use Rattle.roman_session.proofs.session.Session.check_join.Goals as goal
 
 pub returns-in_err-behaviour-clause-checks : goal.returns-in_err-behaviour-clause-checks
-returns-in_err-behaviour-clause-checks c =
-    let p = err_from_is_err_and c.from_residual.result c.from_residual.ensures.1 in
-    let finds = c.in_err-behaviour.ensures.finds in
-    rw p.1 ((inl (c.in-Some.ensures.name.0, inr (finds.1, no_name c.args.self.now p.0 (cc (p.2, finds.0)))), inl refl))
+returns-in_err-behaviour-clause-checks c = grind (arith, err_from_is_err_and, no_name)
 
 pub returns-in_err-state-clause-checks : goal.returns-in_err-state-clause-checks
 returns-in_err-state-clause-checks c =
