@@ -1,5 +1,7 @@
 -- The effect of opening a document on a handle.
-use Rattle.std.specs.Prelude.{◌≡◌, ℕ, List, [], ◌∷◌, Option, Some}
+use Rattle.core.specs.declared.ledger.Blank.{Blank}
+use Rattle.core.specs.declared.ledger.Ledger.{Ghosts as LedgerView}
+use Rattle.std.specs.Prelude.{◌≡◌, ◌≢◌, ℕ, ◌<◌, List, [], ◌∷◌, Option, None, Some}
 use Rattle.roman_io.specs.Shelf.{Texts}
 use Rattle.roman_model.specs.Lists.{IsIn}
 use Rattle.roman_library.specs.Library.{PlainLibrary}
@@ -10,6 +12,9 @@ use Rattle.roman_opening.specs.Opening.{Accepted, Past, Refused, document_openin
 use Rattle.roman_opening.specs.RefusalLine.{refusal_line}
 use Rattle.roman_opening.specs.declared.status.Status.{Status}
 use Rattle.roman_opening.specs.declared.status.Status.TheVariants as status
+use Rattle.roman_c.specs.Contents.{reply_in, session_in, texts_in}
+use Rattle.roman_c.specs.declared.content.Content.{Content}
+use Rattle.roman_c.specs.declared.opening.Begun.{Begun}
 
 -- the document of that name is accepted within its limit, and a session of it is open in a starting situation
 pub record OpensStart (texts : Texts) (name : List ℕ) (session : Option Situation) : Type 0 where
@@ -34,6 +39,28 @@ pub record TellsLimit (texts : Texts) (name reply : List ℕ) : Type 0 where
 -- the numbers that opening a document returns
 abbrev pub IsOpeningStatus : ℕ → Type 0
 IsOpeningStatus n = IsIn n (0 ∷ 3 ∷ 4 ∷ 5 ∷ 9 ∷ 10 ∷ [])
+
+-- what opening the document of that name leaves, with this number: a session and a reply
+pub record HasOpened (texts : Texts) (name : List ℕ) (session : Option Situation) (reply : List ℕ) (number : ℕ) : Type 0 where
+  pub among : IsOpeningStatus number
+  pub ok : number ≡ 0 → OpensStart texts name session
+  pub none : number ≢ 0 → session ≡ None
+  pub refused : number ≡ 3 → TellsRefusal texts name reply
+  pub limit : number ≡ 4 → TellsLimit texts name reply
+
+-- the document of that name was opened, with the session and the reply of this result
+abbrev pub HasBegun : Texts → List ℕ → Begun → Type 0
+HasBegun texts name begun = HasOpened texts name begun.talk.session begun.talk.reply.bytes.items begun.status
+
+-- the document of that name was opened, with the content of handles before and after an export
+abbrev pub HasOpenedIn : Option Content → List ℕ → Option Content → ℕ → Type 0
+HasOpenedIn shelf name session number = HasOpened (texts_in shelf) name (session_in session) (reply_in session) number
+
+-- a counter of steps can begin on the blank: it has the name and the parts of the ledger, at least one
+pub record CanCount {L : Type 0} (ledger : LedgerView L) (blank : Blank) : Type 0 where
+  pub name : blank.name ≡ ledger.name
+  pub parts : blank.parts ≡ ledger.parts
+  pub some : 0 < ledger.parts
 
 -- the number of a status without a session; it is that of out of memory if a line couldn't be written
 abbrev pub opening_number : Status → ℕ

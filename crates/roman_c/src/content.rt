@@ -1,11 +1,10 @@
 //! The content of a handle.
-ghost use Rattle.std.specs.Prelude.{◌≡◌, ◌≢◌, ◌⊎◌, ◌∷◌, ◌<◌, [], None, Some, length, drop, option_copied};
-ghost use Rattle.roman_io.specs.Faults.{Rose};
+ghost use Rattle.std.specs.Prelude.{◌≡◌, ◌≢◌, ◌∷◌, [], None, Some, length, drop, option_copied};
 ghost use Rattle.roman_c.specs.Answers.{AnswersEvent, AnswersLine};
-ghost use Rattle.roman_c.specs.Contents.{missing_in, reply_in, session_in, texts_in, IsMissing};
+ghost use Rattle.roman_c.specs.Contents.{reply_in, session_in, texts_in, IsMissing};
 ghost use Rattle.roman_c.specs.Copies.{IsBeginning};
-ghost use Rattle.roman_c.specs.Jobs.{HasDone, IsJobNumber, job_of};
-ghost use Rattle.roman_c.specs.Openings.{IsOpeningStatus, OpensStart, TellsLimit, TellsRefusal};
+ghost use Rattle.roman_c.specs.Jobs.{HasWorked};
+ghost use Rattle.roman_c.specs.Openings.{CanCount, HasBegun};
 
 use crate::events::NumberedEvent;
 use crate::jobs::work;
@@ -50,18 +49,9 @@ impl Content {
 
     /// Begins a session of a document on a shelf.
     pub(crate) fn begin<L: Ledger>(&mut self, alloc: Global, name: &str, blank: Blank) -> Begun
-        requires name { blank.name ≡ L.name }
-        requires parts { blank.parts ≡ L.parts }
-        requires some { 0 < L.parts }
-        ensures among { IsOpeningStatus result.status }
-        ensures ok { result.status ≡ 0 → OpensStart (texts_in (Some self.old)) name.now result.talk.session }
-        ensures none { result.status ≢ 0 → result.talk.session ≡ None }
-        ensures refused { result.status ≡ 3 → TellsRefusal (texts_in (Some self.old)) name.now
-            result.talk.reply.bytes.items }
-        ensures limit { result.status ≡ 4 → TellsLimit (texts_in (Some self.old)) name.now
-            result.talk.reply.bytes.items }
-        ensures missing { result.status ≡ 5 → (texts_in (Some self.old) ≡ [])
-            ⊎ Rose (missing_in (Some self.old)) (missing_in (Some self.new)) }
+        requires { CanCount L.Ledger blank }
+        ensures opens { HasBegun (texts_in (Some self.old)) name.now result }
+        ensures missing { result.status ≡ 5 → IsMissing (Some self.old) (Some self.new) }
         ensures texts { texts_in (Some self.new) ≡ texts_in (Some self.old) }
     {
         match self {
@@ -84,14 +74,8 @@ impl Content {
         certificate: Option<&str>,
         blank: Blank,
     ) -> Begun
-        requires name { blank.name ≡ L.name }
-        requires parts { blank.parts ≡ L.parts }
-        requires some { 0 < L.parts }
-        ensures among { IsJobNumber result.status }
-        ensures none { result.talk.session ≡ None }
-        ensures done { let texts = texts_in (Some self.old) in
-            HasDone (job_of (option_copied certificate.entry)) texts name.now
-            result.talk.reply.bytes.items result.status }
+        requires { CanCount L.Ledger blank }
+        ensures works { HasWorked (option_copied certificate.entry) (texts_in (Some self.old)) name.now result }
         ensures missing { result.status ≡ 5 → IsMissing (Some self.old) (Some self.new) }
         ensures texts { texts_in (Some self.new) ≡ texts_in (Some self.old) }
     {

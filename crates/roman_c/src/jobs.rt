@@ -1,10 +1,10 @@
 //! Does a job on a document of a shelf: reports on it, or checks a certificate.
-ghost use Rattle.std.specs.Prelude.{◌≡◌, ◌<◌, None, option_copied};
+ghost use Rattle.std.specs.Prelude.{◌≡◌, option_copied};
 ghost use Rattle.roman_io.specs.Faults.{Rose};
 ghost use Rattle.roman_io.specs.Memory.{texts_of};
-ghost use Rattle.roman_opening.specs.Outputs.{outputs_of};
-ghost use Rattle.roman_top.specs.Endings.{DoesJob};
-ghost use Rattle.roman_c.specs.Jobs.{HasDone, IsJobNumber, job_number, job_of};
+ghost use Rattle.roman_top.specs.Endings.{DoesJobOn};
+ghost use Rattle.roman_c.specs.Openings.{CanCount};
+ghost use Rattle.roman_c.specs.Jobs.{HasWorked, job_number, job_of};
 
 use crate::opening::Begun;
 use crate::shelf::TextShelf;
@@ -24,13 +24,8 @@ pub(crate) fn work<L: Ledger>(
     certificate: Option<&str>,
     blank: Blank,
 ) -> Begun
-    requires name { blank.name ≡ L.name }
-    requires parts { blank.parts ≡ L.parts }
-    requires some { 0 < L.parts }
-    ensures among { IsJobNumber result.status }
-    ensures none { result.talk.session ≡ None }
-    ensures done { let texts = texts_of shelf.old.files.items in
-        HasDone (job_of (option_copied certificate.entry)) texts name.now result.talk.reply.bytes.items result.status }
+    requires { CanCount L.Ledger blank }
+    ensures works { HasWorked (option_copied certificate.entry) (texts_of shelf.old.files.items) name.now result }
     ensures missing { result.status ≡ 5 → Rose shelf.old.missing shelf.new.missing }
     ensures texts { texts_of shelf.new.files.items ≡ texts_of shelf.old.files.items }
 {
@@ -55,8 +50,8 @@ fn run<F: Shelf, O: Sink, L: Ledger>(
     out: &mut O,
     steps: &mut Steps<L>,
 ) -> Status
-    ensures { DoesJob name.now (job_of (option_copied certificate.entry))
-        (outputs_of F.Shelf O.Sink shelf.old out.old) (outputs_of F.Shelf O.Sink shelf.new out.new) result }
+    ensures { let job = job_of (option_copied certificate.entry) in
+        DoesJobOn F.Shelf O.Sink name.now job shelf.old out.old shelf.new out.new result }
 {
     match certificate {
         None => synth_report(alloc, name, shelf, out, steps),

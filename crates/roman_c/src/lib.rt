@@ -7,16 +7,15 @@
 //! the effect of a line.
 #![tactic(auto)]
 
-ghost use Rattle.std.specs.Prelude.{◌≡◌, ◌≢◌, ◌<◌, ◌⊎◌, ◌∷◌, List, ℕ, [], None, length, drop, take, min, option_copied};
-ghost use Rattle.roman_io.specs.Faults.{Rose};
+ghost use Rattle.std.specs.Prelude.{◌≡◌, ◌≢◌, ◌∷◌, List, ℕ, [], None, length, drop, take, min, option_copied};
 ghost use Rattle.roman_top.specs.Command.{Synth, Check};
 ghost use Rattle.roman_c.specs.Answers.{AnswersBy, AnswersEvent, AnswersLine};
 ghost use Rattle.roman_c.specs.Events.{join_line};
-ghost use Rattle.roman_c.specs.Contents.{missing_in, reply_in, session_in, texts_in, IsMissing};
+ghost use Rattle.roman_c.specs.Contents.{reply_in, session_in, texts_in, IsMissing};
 ghost use Rattle.roman_c.specs.Copies.{CopiesAll, IsBeginning};
 ghost use Rattle.roman_c.specs.Figures.{HaveOffered, by_kind, find_number, kind_from, session_name, no_number, figure_of, phase_number, numbered_state};
-ghost use Rattle.roman_c.specs.Jobs.{HasDoneIn, IsJobNumber, job_of};
-ghost use Rattle.roman_c.specs.Openings.{IsOpeningStatus, OpensStart, TellsLimit, TellsRefusal};
+ghost use Rattle.roman_c.specs.Jobs.{HasDoneIn, HasWorkedIn, IsJobNumber};
+ghost use Rattle.roman_c.specs.Openings.{CanCount, HasOpenedIn, IsOpeningStatus, OpensStart, TellsLimit, TellsRefusal};
 
 use content::Content;
 use events::NumberedEvent;
@@ -85,8 +84,7 @@ pub extern "C" fn roman_open(
     ensures none { result ≢ 0 → session_in session.new.value ≡ None }
     ensures refused { result ≡ 3 → TellsRefusal (texts_in shelf.old.value) name.now (reply_in session.new.value) }
     ensures limit { result ≡ 4 → TellsLimit (texts_in shelf.old.value) name.now (reply_in session.new.value) }
-    ensures missing { result ≡ 5 → (texts_in shelf.old.value ≡ [])
-        ⊎ Rose (missing_in shelf.old.value) (missing_in shelf.new.value) }
+    ensures missing { result ≡ 5 → IsMissing shelf.old.value shelf.new.value }
     ensures texts { texts_in shelf.new.value ≡ texts_in shelf.old.value }
 {
     opened::<Brand>(alloc, session, shelf, name, Blank::new(1))
@@ -100,16 +98,9 @@ fn opened<L: Ledger>(
     name: &[u8],
     blank: Blank,
 ) -> u32
-    requires name { blank.name ≡ L.name }
-    requires parts { blank.parts ≡ L.parts }
-    requires some { 0 < L.parts }
-    ensures among { IsOpeningStatus result }
-    ensures ok { result ≡ 0 → OpensStart (texts_in shelf.old.value) name.now (session_in session.new.value) }
-    ensures none { result ≢ 0 → session_in session.new.value ≡ None }
-    ensures refused { result ≡ 3 → TellsRefusal (texts_in shelf.old.value) name.now (reply_in session.new.value) }
-    ensures limit { result ≡ 4 → TellsLimit (texts_in shelf.old.value) name.now (reply_in session.new.value) }
-    ensures missing { result ≡ 5 → (texts_in shelf.old.value ≡ [])
-        ⊎ Rose (missing_in shelf.old.value) (missing_in shelf.new.value) }
+    requires { CanCount L.Ledger blank }
+    ensures opens { HasOpenedIn shelf.old.value name.now session.new.value result }
+    ensures missing { result ≡ 5 → IsMissing shelf.old.value shelf.new.value }
     ensures texts { texts_in shelf.new.value ≡ texts_in shelf.old.value }
 {
     let _ = session.take(alloc);
@@ -190,13 +181,8 @@ fn worked<L: Ledger>(
     certificate: Option<&str>,
     blank: Blank,
 ) -> u32
-    requires name { blank.name ≡ L.name }
-    requires parts { blank.parts ≡ L.parts }
-    requires some { 0 < L.parts }
-    ensures among { IsJobNumber result }
-    ensures none { session_in session.new.value ≡ None }
-    ensures done { let job = job_of (option_copied certificate.entry) in
-        HasDoneIn job shelf.old.value name.now session.new.value result }
+    requires { CanCount L.Ledger blank }
+    ensures works { HasWorkedIn (option_copied certificate.entry) shelf.old.value name.now session.new.value result }
     ensures missing { result ≡ 5 → IsMissing shelf.old.value shelf.new.value }
     ensures texts { texts_in shelf.new.value ≡ texts_in shelf.old.value }
 {

@@ -1,8 +1,8 @@
 //! Begins a session of a document on a shelf.
-ghost use Rattle.std.specs.Prelude.{◌≡◌, ◌≢◌, ◌<◌, None, Some, IsSome};
+ghost use Rattle.std.specs.Prelude.{◌≡◌};
 ghost use Rattle.roman_io.specs.Faults.{Rose};
 ghost use Rattle.roman_io.specs.Memory.{texts_of};
-ghost use Rattle.roman_c.specs.Openings.{IsOpeningStatus, OpensStart, TellsLimit, TellsRefusal, opening_number};
+ghost use Rattle.roman_c.specs.Openings.{CanCount, HasBegun, opening_number};
 
 use crate::shelf::TextShelf;
 use crate::talk::{Reply, Talk};
@@ -25,16 +25,8 @@ pub(crate) fn begin<L: Ledger>(
     name: &str,
     blank: Blank,
 ) -> Begun
-    requires name { blank.name ≡ L.name }
-    requires parts { blank.parts ≡ L.parts }
-    requires some { 0 < L.parts }
-    ensures among { IsOpeningStatus result.status }
-    ensures ok { result.status ≡ 0 → OpensStart (texts_of shelf.old.files.items) name.now result.talk.session }
-    ensures none { result.status ≢ 0 → result.talk.session ≡ None }
-    ensures refused { result.status ≡ 3 → TellsRefusal (texts_of shelf.old.files.items) name.now
-        result.talk.reply.bytes.items }
-    ensures limit { result.status ≡ 4 → TellsLimit (texts_of shelf.old.files.items) name.now
-        result.talk.reply.bytes.items }
+    requires { CanCount L.Ledger blank }
+    ensures opens { HasBegun (texts_of shelf.old.files.items) name.now result }
     ensures missing { result.status ≡ 5 → Rose shelf.old.missing shelf.new.missing }
     ensures texts { texts_of shelf.new.files.items ≡ texts_of shelf.old.files.items }
 {

@@ -50,8 +50,7 @@ impl Shelf for TextShelf {
 
     fn fetch(&mut self, name: &str, at: u64, into: &mut [u8]) -> Result<usize, Failed>
         ensures bound { IfOk result (λ n. n ≤ length into.new) }
-        ensures bytes { IfSome (Some (texts_of self.old.files.items))
-            (λ ts. IfOk result (Fetches (shelf_text ts name.now) at into.new)) }
+        ensures bytes { IfOk result (Fetches (shelf_text (texts_of self.old.files.items) name.now) at into.new) }
         ensures texts { Some (texts_of self.new.files.items) ≡ Some (texts_of self.old.files.items) }
         ensures cause { HasCause self.old.missing self.new.missing result }
     {

@@ -18,9 +18,10 @@ pub fn complain_of(
     shelf: &mut FolderShelf<'_, HostRuntime>,
     out: &StdSink,
 ) -> io::Result<()> {
+    let words = &ended.words;
     match ended.status {
-        Status::Refused => complain_of_form(rt, &ended.words, shelf),
-        Status::Limit => complain_of_size(rt, &ended.words, shelf),
+        Status::Refused if words.len() > 1 => complain_of_form(rt, words.at(1), shelf),
+        Status::Limit if words.len() > 1 => complain_of_size(rt, words.at(1), words, shelf),
         Status::ShelfFault => complain_of_file(rt, shelf.unread()),
         Status::WriteFault if out.is_closed() => Ok(()),
         status => complain(rt, status),
@@ -57,13 +58,9 @@ fn complain_of_file(rt: &HostRuntime, unread: Option<&Unread>) -> io::Result<()>
 /// Explains how to expand a document in the short form, which the program refuses.
 fn complain_of_form(
     rt: &HostRuntime,
-    words: &Words,
+    name: &str,
     shelf: &mut FolderShelf<'_, HostRuntime>,
 ) -> io::Result<()> {
-    if words.len() < 2 {
-        return Ok(());
-    }
-    let name = words.at(1);
     if !is_short(rt.alloc(), name, shelf) {
         return Ok(());
     }
@@ -86,17 +83,15 @@ fn is_short(alloc: Global, name: &str, shelf: &mut FolderShelf<'_, HostRuntime>)
     }
 }
 
-/// Writes how many cells the system named by the words has, and its limit. For a system within its
-/// limit, writes that the requested advice would have too many values.
+/// Writes how many cells the system has, and its limit. For a system within its limit, writes that
+/// the advice requested by the words would have too many values.
 fn complain_of_size(
     rt: &HostRuntime,
+    system: &str,
     words: &Words,
     shelf: &mut FolderShelf<'_, HostRuntime>,
 ) -> io::Result<()> {
-    if words.len() < 2 {
-        return Ok(());
-    }
-    let Ok(extent) = extent_of(rt.alloc(), words.at(1), shelf) else {
+    let Ok(extent) = extent_of(rt.alloc(), system, shelf) else {
         return Ok(());
     };
     let limit = extent.limit;

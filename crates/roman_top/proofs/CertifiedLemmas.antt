@@ -1,5 +1,5 @@
 -- A removal list is complete exactly if it lists the pairs that aren't related, validly.
-use Rattle.roman_top.proofs.Common.{◌≡◌, ℕ, ◌*◌, ◌<◌, List, [], ◌∷◌, map, IsTrue, inl, inr, refl, sym, ap₂, ◌∙◌, subst, arith, length, not, ◌↔◌, ◌⊎◌, list_any, both_ways, or_cases, not-true, or_parts, not-false, and_from, not_from_false, or_left, or_right, IsIn, is_empty, all_below, Sys, Pair, IsSys, IsPair, is_final, all_final, pairs, outcomes, same_pair, is_fine, arena, is_allowed, Entry, is_among, is_justified, IsOrderFrom, is_beaten, is_listed, IsComplete, cert_text, sizes_of, count, pair_at, entry_at, IsCompleteList, Reason, Final, Act, any_true, any_from, in_map, from_map, from_allowed, outcome_in, from_outcome, listed_in, in_listed, length-pairs, numbers_are_pairs, map-map, system_is_same, justified_is, in_not_empty, all_below_from, allowed_in, not_empty_in, by_test, HoldsReason, AreValid, ListsUnrelated, numbered_entry, CertifiesUnrelated, LeadsTo, pair_number}
+use Rattle.roman_top.proofs.Common.{◌≡◌, ℕ, List, [], ◌∷◌, map, IsTrue, inl, inr, refl, sym, ap₂, ◌∙◌, subst, arith, length, not, ◌↔◌, ◌⊎◌, list_any, both_ways, or_cases, not-true, or_parts, not-false, and_from, not_from_false, or_left, or_right, IsIn, is_empty, all_below, Sys, Pair, IsSys, IsPair, is_final, all_final, pairs, outcomes, same_pair, is_fine, arena, is_allowed, Entry, is_among, is_justified, IsOrderFrom, is_beaten, is_listed, IsComplete, cert_text, sizes_of, count, pair_at, entry_at, IsCompleteList, Reason, Final, Act, any_true, any_from, in_map, from_map, from_allowed, outcome_in, from_outcome, listed_in, in_listed, length-pairs, numbers_are_pairs, map-map, system_is_same, justified_is, in_not_empty, all_below_from, allowed_in, not_empty_in, by_test, HoldsReason, AreValid, ListsUnrelated, numbered_entry, CertifiesUnrelated, LeadsTo, pair_number}
 
 -- Reasons.
 

@@ -90,7 +90,7 @@ pub use Rattle.roman_start.proofs.CallerLemmas.{behaviours_within, names_once, s
 pub use Rattle.roman_start.specs.Seating.{IsSeated}
 pub use Rattle.roman_start.specs.Starts.{parts_of, seat_of_service, start_pair_of}
 pub use Rattle.roman_start.specs.declared.seating.Seated.{Seated}
-pub use Rattle.roman_text.proofs.CallerLemmas.{IsFilling, fill_behind, fill_end, fill_failed, fill_last, fill_more, fill_put, fill_same, fill_whole}
+pub use Rattle.roman_text.proofs.CallerLemmas.{IsFilling, fill_behind, fill_end, fill_failed, fill_last, fill_more, fill_put, fill_same, fill_stops, fill_whole}
 pub use Rattle.roman_text.specs.Replies.{reply_text}
 pub use Rattle.roman_text.specs.Report.{line_text}
 pub use Rattle.roman_text.specs.Shapes.{LineShape, delegate, observe, quit, request}
@@ -101,6 +101,7 @@ pub use Rattle.roman_whatif.specs.Told.{told}
 pub use Rattle.roman_top.specs.AdviseText.{Affords, DoesAdvise, OnCosts, SaysAdvice}
 pub use Rattle.roman_top.specs.Causes.{InputCause}
 pub use Rattle.roman_top.specs.Command.{Advise, Certify, Check, Command, Job, Make, On, Resilience, Run, Shortest, Synth, command_as, usage_line}
+pub use Rattle.roman_top.specs.ContractWords.{head_for, ones_for, outlooks_for, twos_for}
 pub use Rattle.roman_top.specs.Complete.{AnswersWherePossible, CanAnswer, IsAnswered, IsUndisturbed, Suffices}
 pub use Rattle.roman_top.specs.Endings.{DoesJob, FindsVerdict, GoesOnFrom, RunsText, IsTooLong, Prints, run_status, status_of}
 pub use Rattle.roman_top.specs.Faults.{AtMemory, AtReadFault, AtShelfFault, AtWriteFault, EndsInput, HasAnswered, HasAnsweredInput, HasAnsweredPrefix, HasPrefixOfTaken, HasRunPrefix, IsFree, IsOfSession, IsOfTaken, TakesInput}

@@ -1,5 +1,5 @@
 -- The lines of `resilience`, pushed one after another.
-use Rattle.roman_top.proofs.Common.{◌≡◌, ℕ, ◌+◌, ◌<◌, ◌≤◌, List, [], ◌++◌, map, length, drop, codes, decimal, refl, ap, ap₂, ◌∙◌, arith, flat_map, append-nil, below, Pair, outlook, system_without, pair_without, Outlook, Way, from_place, from_end, NamedSys, system_of, outlook_words, service_names, lines_without, ones, twos, outlook_text, way_word, line_without, head_text, flat_map-append}
+use Rattle.roman_top.proofs.Common.{IsFilling, fill_whole, head_for, ones_for, outlooks_for, twos_for, ◌≡◌, ℕ, ◌+◌, ◌<◌, ◌≤◌, List, [], ◌++◌, map, length, drop, codes, decimal, refl, ap, ap₂, ◌∙◌, arith, flat_map, append-nil, below, Pair, outlook, system_without, pair_without, Outlook, Way, from_place, from_end, NamedSys, system_of, outlook_words, service_names, lines_without, outlook_text, way_word, line_without, head_text, flat_map-append}
 use Rattle.roman_model.specs.declared.way.Way.TheVariants.{Freeze, Die}
 
 -- Lines.
@@ -35,9 +35,8 @@ all_end h f n k l = ap (λ (ks : List ℕ). flat_map f (flat_map h ks)) (from_en
 
 -- The whole text.
 
-pub text_pieces : (parts : NamedSys) (p : Pair) →
-    head_text parts (outlook (system_of parts) p)
-    ++ (flat_map (lines_without parts p) (ones (length parts.seats)) ++ (flat_map (lines_without parts p) (twos (length parts.seats)) ++ (codes "end\n" ++ [])))
-    ≡ outlook_text parts p
+-- the text on an empty page, piece by piece
+pub text_begun : (parts : NamedSys) (p : ℕ) (old : Option (List ℕ)) (held : List ℕ) → held ≡ [] →
+    IsFilling old old held (head_for parts p ++ (ones_for parts p ++ (twos_for parts p ++ (codes "end\n" ++ [])))) (outlooks_for parts p)
 unfolding outlook_text
-text_pieces parts p = refl
+text_begun parts p old held empty = fill_whole old held _ _ empty refl

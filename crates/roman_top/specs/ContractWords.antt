@@ -1,9 +1,10 @@
--- Words for contracts within this crate: the values and texts of parts of `check`, `advise` and `resilience`.
-use Rattle.std.specs.Prelude.{◌≡◌, ℕ, ◌+◌, List, [], ◌∷◌, map, length, drop, Option, Result, Ok}
+-- Words for contracts within this crate: the effects of sessions and calls, and the values and texts of parts of `check`, `advise` and `resilience`.
+use Rattle.std.specs.Prelude.{◌≡◌, ℕ, ◌+◌, ◌⊎◌, List, [], ◌∷◌, map, length, drop, Option, Some, Result, Ok}
 use Rattle.std.specs.List.{flat_map}
-use Rattle.roman_io.specs.Shelf.{Texts}
+use Rattle.roman_io.specs.Shelf.{Texts, rest_from}
 use Rattle.roman_io.specs.declared.shelf.Shelf.{Ghosts as ShelfView}
 use Rattle.roman_io.specs.declared.sink.Sink.{Ghosts as SinkView}
+use Rattle.roman_io.specs.declared.source.Source.{Ghosts as SourceView}
 use Rattle.roman_model.specs.Lists.{below}
 use Rattle.roman_model.specs.Numbers.{numbered}
 use Rattle.roman_model.specs.Without.{outlook}
@@ -11,6 +12,10 @@ use Rattle.roman_parts.specs.declared.error.PartError.{PartError}
 use Rattle.roman_joint.specs.NamedSys.{NamedSys, system_of}
 use Rattle.roman_library.specs.Refusals.{refusal_of}
 use Rattle.roman_library.specs.declared.refusal.Part.TheVariants as part
+use Rattle.roman_session.specs.Situations.{Situation}
+use Rattle.roman_hearing.specs.Hearing.{CausedBy, cursor, stream_state}
+use Rattle.roman_hearing.specs.declared.hearing.HearError.{HearError}
+use Rattle.roman_hearing.specs.declared.hearing.HearError.TheVariants.{ReadFault}
 use Rattle.roman_check.specs.declared.verdict.Verdict.{Verdict}
 use Rattle.roman_cost.specs.AdviceText.{advised_by}
 use Rattle.roman_cost.specs.Costs.{costs_of}
@@ -24,8 +29,35 @@ use Rattle.roman_opening.specs.RefusalLine.{refusal_line}
 use Rattle.roman_opening.specs.declared.status.Status.{Status}
 use Rattle.roman_opening.specs.declared.status.Status.TheVariants as status
 use Rattle.roman_top.specs.AdviseText.{OnCosts, SaysAdvice}
-use Rattle.roman_top.specs.Endings.{FindsVerdict, IsTooLong, PrintsTo}
+use Rattle.roman_top.specs.Command.{Command}
+use Rattle.roman_top.specs.Endings.{FindsVerdict, IsTooLong, PrintsTo, RunsText}
+use Rattle.roman_top.specs.Faults.{TakesInput}
+use Rattle.roman_top.specs.Served.{Served}
+use Rattle.roman_top.specs.World.{world_of}
 use Rattle.roman_top.specs.ResilienceText.{head_text, lines_without, ones, twos, outlook_text}
+
+-- ---- sessions
+
+-- the session was read from the text of that name on the shelf
+abbrev pub HearsText : {X Y : Type 0} → ShelfView X → SinkView Y → List ℕ → Situation → X → Y → Situation → Y → Result (Unit {0}) HearError → Type 0
+HearsText F O name old shelf out new out_now result =
+    RunsText (stream_state old (rest_from (F.texts shelf) name 0) (O.written out)) (cursor new (O.written out_now)) result
+
+-- the shelf's count of faults rose if `ReadFault` is returned, and stayed the same otherwise
+abbrev pub CausedByShelf : {X T : Type 0} → ShelfView X → X → X → Result T HearError → Type 0
+CausedByShelf F old new result = CausedBy ReadFault (F.faults old) (F.faults new) result
+
+-- ---- calls
+
+-- the effect of a command, in words for contracts at bounds `F: Shelf`, `I: Source` and `O: Sink`
+abbrev pub ServesCommand : {X Y Z : Type 0} → ShelfView X → SourceView Y → SinkView Z → Command → X → Y → Z → X → Y → Z → Status → Type 0
+ServesCommand F I O command shelf input out shelf_now input_now out_now result =
+    Served (Some command) (world_of F I O shelf input out) (world_of F I O shelf_now input_now out_now) result
+
+-- the input is unchanged, or the command took bytes from it
+abbrev pub LeavesOrTakesInput : {X Y Z : Type 0} → ShelfView X → SourceView Y → SinkView Z → Command → X → Y → Z → X → Y → Z → Status → Type 0
+LeavesOrTakesInput F I O command shelf input out shelf_now input_now out_now result =
+    (input_now ≡ input) ⊎ TakesInput (Some command) (world_of F I O shelf input out) (world_of F I O shelf_now input_now out_now) result
 
 -- ---- check
 

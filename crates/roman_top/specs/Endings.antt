@@ -1,6 +1,7 @@
 -- How the parts of a run end: the status that they return, and the text that they wrote.
 use Rattle.std.specs.Prelude.{◌≡◌, ℕ, Bool, true, false, List, [], Option, Result, Ok, Err, OnOk, IsErrOf}
 use Rattle.roman_io.specs.Shelf.{Texts, shelf_text}
+use Rattle.roman_io.specs.declared.shelf.Shelf.{Ghosts as ShelfView}
 use Rattle.roman_io.specs.declared.sink.Sink.{Ghosts as SinkView}
 use Rattle.roman_model.specs.Arena.{Arena}
 use Rattle.roman_model.specs.Certificate.{TooLong, cert_verdict}
@@ -12,7 +13,7 @@ use Rattle.roman_hearing.specs.declared.hearing.HearError.{HearError}
 use Rattle.roman_hearing.specs.declared.hearing.HearError.TheVariants as hear
 use Rattle.roman_opening.specs.Endings.{Ends}
 use Rattle.roman_opening.specs.Opening.{document_opening, OnOpening}
-use Rattle.roman_opening.specs.Outputs.{Outputs, outputs}
+use Rattle.roman_opening.specs.Outputs.{Outputs, outputs, outputs_of}
 use Rattle.roman_opening.specs.declared.status.Status.TheVariants as status
 use Rattle.roman_opening.specs.declared.status.Status.{Status}
 use Rattle.roman_top.specs.Command.{Job}
@@ -29,6 +30,10 @@ PrintsTo O IsRun old new result = Prints IsRun (O.written old) (O.faults old) (O
 -- the effect of a job on the document of that name, on a shelf and a sink alone
 pub record DoesJob (name : List ℕ) (job : Job) (old new : Outputs) (result : Status) : Type 0 where
   pub ends : Ends (λ texts. OnOpening (JobDoes job texts []) (document_opening texts name)) old new result
+
+-- the effect of a job, in words for contracts at bounds `F: Shelf` and `O: Sink`
+abbrev pub DoesJobOn : {F O : Type 0} → ShelfView F → SinkView O → List ℕ → Job → F → O → F → O → Status → Type 0
+DoesJobOn F O name job shelf out shelf_now out_now result = DoesJob name job (outputs_of F O shelf out) (outputs_of F O shelf_now out_now) result
 
 -- the status that states whether a pair is related
 abbrev pub status_of : Bool → Status

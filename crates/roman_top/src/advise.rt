@@ -12,7 +12,7 @@ ghost use Rattle.roman_text.specs.declared.report.ReportLine.TheVariants as line
 ghost use Rattle.roman_opening.specs.Outputs.{outputs_of};
 ghost use Rattle.roman_top.specs.Command.{Advise};
 ghost use Rattle.roman_top.specs.ContractWords.{OpensCosts, PrintsAdvice, RefusesCosts};
-ghost use Rattle.roman_top.specs.Endings.{DoesJob};
+ghost use Rattle.roman_top.specs.Endings.{DoesJobOn};
 
 use crate::check_text::answer_line;
 use crate::requests::Requests;
@@ -41,8 +41,8 @@ pub(crate) fn advise<F: Shelf, O: Sink, L: Ledger>(
     out: &mut O,
     steps: &mut Steps<L>,
 ) -> Status
-    ensures { DoesJob system.now (Advise costs.now requests.count)
-        (outputs_of F.Shelf O.Sink shelf.old out.old) (outputs_of F.Shelf O.Sink shelf.new out.new) result }
+    ensures { DoesJobOn F.Shelf O.Sink system.now (Advise costs.now requests.count)
+        shelf.old out.old shelf.new out.new result }
 {
     let seated = match open_system(alloc, system, shelf, out) {
         Ok(seated) => seated,

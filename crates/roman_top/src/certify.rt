@@ -1,7 +1,6 @@
 //! The command `certify SYSTEM`.
-ghost use Rattle.roman_opening.specs.Outputs.{outputs_of};
 ghost use Rattle.roman_top.specs.Command.{Certify};
-ghost use Rattle.roman_top.specs.Endings.{DoesJob};
+ghost use Rattle.roman_top.specs.Endings.{DoesJobOn};
 
 use roman_cert::write_order;
 use roman_io::{Shelf, Sink, Steps};
@@ -18,8 +17,7 @@ pub(crate) fn certify<F: Shelf, O: Sink, L: Ledger>(
     out: &mut O,
     steps: &mut Steps<L>,
 ) -> Status
-    ensures { DoesJob system.now Certify
-        (outputs_of F.Shelf O.Sink shelf.old out.old) (outputs_of F.Shelf O.Sink shelf.new out.new) result }
+    ensures { DoesJobOn F.Shelf O.Sink system.now Certify shelf.old out.old shelf.new out.new result }
 {
     match open_relation(alloc, system, shelf, out, steps) {
         Ok(related) => finish(write_order(&related.relation, out), Status::Done),

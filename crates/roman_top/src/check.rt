@@ -3,10 +3,9 @@ ghost use Rattle.std.specs.Prelude.{◌<◌};
 ghost use Rattle.roman_model.specs.Numbers.{sizes_of, count};
 ghost use Rattle.roman_check.specs.Verdicts.{verdict_of};
 ghost use Rattle.roman_joint.specs.NamedSys.{system_of};
-ghost use Rattle.roman_opening.specs.Outputs.{outputs_of};
 ghost use Rattle.roman_top.specs.Command.{Check};
 ghost use Rattle.roman_top.specs.ContractWords.{OpensVerdict};
-ghost use Rattle.roman_top.specs.Endings.{DoesJob, PrintsTo};
+ghost use Rattle.roman_top.specs.Endings.{DoesJobOn, PrintsTo};
 ghost use Rattle.roman_top.specs.Run.{SaysVerdict};
 
 use crate::check_text::{put_greatest, put_rejected};
@@ -29,8 +28,8 @@ pub fn check_certificate<F: Shelf, O: Sink, L: Ledger>(
     out: &mut O,
     steps: &mut Steps<L>,
 ) -> Status
-    ensures { DoesJob system.now (Check certificate.now)
-        (outputs_of F.Shelf O.Sink shelf.old out.old) (outputs_of F.Shelf O.Sink shelf.new out.new) result }
+    ensures { DoesJobOn F.Shelf O.Sink system.now (Check certificate.now)
+        shelf.old out.old shelf.new out.new result }
 {
     let seated = match open_system(alloc, system, shelf, out) {
         Ok(seated) => seated,

@@ -1,7 +1,6 @@
 //! The command `resilience SYSTEM`.
-ghost use Rattle.roman_opening.specs.Outputs.{outputs_of};
 ghost use Rattle.roman_top.specs.Command.{Resilience};
-ghost use Rattle.roman_top.specs.Endings.{DoesJob};
+ghost use Rattle.roman_top.specs.Endings.{DoesJobOn};
 
 use crate::resilience_text::put_outlooks;
 use roman_io::{Shelf, Sink, Steps};
@@ -20,8 +19,7 @@ pub(crate) fn resilience<F: Shelf, O: Sink, L: Ledger>(
     out: &mut O,
     steps: &mut Steps<L>,
 ) -> Status
-    ensures { DoesJob system.now Resilience
-        (outputs_of F.Shelf O.Sink shelf.old out.old) (outputs_of F.Shelf O.Sink shelf.new out.new) result }
+    ensures { DoesJobOn F.Shelf O.Sink system.now Resilience shelf.old out.old shelf.new out.new result }
 {
     let related = match open_relation(alloc, system, shelf, out, steps) {
         Ok(related) => related,

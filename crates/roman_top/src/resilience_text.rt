@@ -6,7 +6,7 @@ ghost use Rattle.roman_joint.specs.Names.{seat_name};
 ghost use Rattle.roman_relation.specs.Greatest.{IsRelation};
 ghost use Rattle.roman_text.specs.Pages.{Pushes};
 ghost use Rattle.roman_whatif.specs.Left.{places};
-ghost use Rattle.roman_whatif.specs.Losses.{AreLosses};
+ghost use Rattle.roman_whatif.specs.Losses.{AreLosses, MayFail};
 ghost use Rattle.roman_whatif.specs.Told.{told};
 ghost use Rattle.roman_cost.specs.NamedWords.{IsPairNumber};
 ghost use Rattle.roman_top.specs.ContractWords.{head_for, outlooks_for, lines_for, ones_for, twos_for, twos_with};
@@ -114,8 +114,7 @@ fn push_lines<O: Sink>(
     out: &mut O,
 ) -> Result<(), Failed>
     requires losses { AreLosses joint.now losses.now }
-    requires first { first < length joint.now.seats }
-    requires second { IfSome second (λ j. (first < j) × (j < length joint.now.seats)) }
+    requires places { MayFail joint.now first second }
     ensures gathers { Pushes O.Sink out.old out.new page.old page.new
         (lines_for joint.now losses.now.pair (places first second)) result }
     ensures cause { FailsWith O.Sink out.old out.new result }

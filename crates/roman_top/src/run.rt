@@ -1,13 +1,11 @@
 //! The commands `run SYSTEM` and `run SYSTEM SESSION`.
-ghost use Rattle.std.specs.Prelude.{◌≡◌, ◌⊎◌, None, Some};
-ghost use Rattle.roman_io.specs.Shelf.{rest_from};
-ghost use Rattle.roman_hearing.specs.Hearing.{stream_state, cursor, CausedBy};
+ghost use Rattle.std.specs.Prelude.{◌≡◌, None, Some};
+ghost use Rattle.roman_hearing.specs.Hearing.{CausedBy};
 ghost use Rattle.roman_opening.specs.Outputs.{outputs_of};
 ghost use Rattle.roman_top.specs.Command.{Run, On};
-ghost use Rattle.roman_top.specs.Endings.{RunsText, run_status};
-ghost use Rattle.roman_top.specs.Faults.{TakesInput};
-ghost use Rattle.roman_top.specs.Served.{Served, ServedBeside};
-ghost use Rattle.roman_top.specs.World.{world_of};
+ghost use Rattle.roman_top.specs.ContractWords.{CausedByShelf, HearsText, LeavesOrTakesInput, ServesCommand};
+ghost use Rattle.roman_top.specs.Endings.{run_status};
+ghost use Rattle.roman_top.specs.Served.{ServedBeside};
 
 use roman_hearing::{HearError, hear};
 use roman_io::{Shelf, ShelfSource, Sink, Source, Steps};
@@ -25,12 +23,10 @@ pub(crate) fn run_input<F: Shelf, I: Source, O: Sink, L: Ledger>(
     out: &mut O,
     steps: &mut Steps<L>,
 ) -> Status
-    ensures served { Served (Some (On system.now (Run None)))
-        (world_of F.Shelf I.Source O.Sink shelf.old input.old out.old)
-        (world_of F.Shelf I.Source O.Sink shelf.new input.new out.new) result }
-    ensures input { (input.new ≡ input.old) ⊎ TakesInput (Some (On system.now (Run None)))
-        (world_of F.Shelf I.Source O.Sink shelf.old input.old out.old)
-        (world_of F.Shelf I.Source O.Sink shelf.new input.new out.new) result }
+    ensures served { ServesCommand F.Shelf I.Source O.Sink (On system.now (Run None))
+        shelf.old input.old out.old shelf.new input.new out.new result }
+    ensures input { LeavesOrTakesInput F.Shelf I.Source O.Sink (On system.now (Run None))
+        shelf.old input.old out.old shelf.new input.new out.new result }
 {
     let mut session = match open_session(alloc, system, shelf, out, steps) {
         Ok(session) => session,
@@ -81,9 +77,8 @@ fn run_text<F: Shelf, O: Sink, L: Ledger>(
     out: &mut O,
     steps: &mut Steps<L>,
 ) -> Result<(), HearError>
-    ensures hears { let text = rest_from (F.texts shelf.old) name.now 0 in
-        RunsText (stream_state session.old text (O.written out.old)) (cursor session.new (O.written out.new)) result }
-    ensures reads { CausedBy HearError.ReadFault (F.faults shelf.old) (F.faults shelf.new) result }
+    ensures hears { HearsText F.Shelf O.Sink name.now session.old shelf.old out.old session.new out.new result }
+    ensures reads { CausedByShelf F.Shelf shelf.old shelf.new result }
     ensures writes { CausedBy HearError.WriteFault (O.faults out.old) (O.faults out.new) result }
     ensures texts { F.texts shelf.new ≡ F.texts shelf.old }
 {

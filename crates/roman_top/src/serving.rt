@@ -1,8 +1,9 @@
 //! The top call of the program.
-ghost use Rattle.std.specs.Prelude.{◌≡◌, ◌⊎◌, Some};
+ghost use Rattle.std.specs.Prelude.{◌≡◌, ◌⊎◌};
 ghost use Rattle.roman_io.specs.SinkCalls.{WritesTo, FailsWith};
 ghost use Rattle.roman_top.specs.Command.{command_as, command_of, usage_line};
 ghost use Rattle.roman_top.specs.Complete.{AnswersWherePossible};
+ghost use Rattle.roman_top.specs.ContractWords.{LeavesOrTakesInput, ServesCommand};
 ghost use Rattle.roman_top.specs.Faults.{TakesInput};
 ghost use Rattle.roman_top.specs.Headline.{HasHeadline};
 ghost use Rattle.roman_top.specs.Served.{Served};
@@ -112,12 +113,10 @@ fn obey<F: Shelf, I: Source, O: Sink, L: Ledger>(
     out: &mut O,
     steps: &mut Steps<L>,
 ) -> Status
-    ensures served { Served (Some (command_as command.entry))
-        (world_of F.Shelf I.Source O.Sink shelf.old input.old out.old)
-        (world_of F.Shelf I.Source O.Sink shelf.new input.new out.new) result }
-    ensures input { (input.new ≡ input.old) ⊎ TakesInput (Some (command_as command.entry))
-        (world_of F.Shelf I.Source O.Sink shelf.old input.old out.old)
-        (world_of F.Shelf I.Source O.Sink shelf.new input.new out.new) result }
+    ensures served { ServesCommand F.Shelf I.Source O.Sink (command_as command.entry)
+        shelf.old input.old out.old shelf.new input.new out.new result }
+    ensures input { LeavesOrTakesInput F.Shelf I.Source O.Sink (command_as command.entry)
+        shelf.old input.old out.old shelf.new input.new out.new result }
 {
     match command {
         Command::Synth(system) => synth_report(alloc, system, shelf, out, steps),

@@ -1,7 +1,6 @@
 //! The command `shortest SYSTEM`.
-ghost use Rattle.roman_opening.specs.Outputs.{outputs_of};
 ghost use Rattle.roman_top.specs.Command.{Shortest};
-ghost use Rattle.roman_top.specs.Endings.{DoesJob};
+ghost use Rattle.roman_top.specs.Endings.{DoesJobOn};
 
 use roman_io::{Shelf, Sink, Steps};
 use roman_opening::{Status, finish, open_relation};
@@ -19,8 +18,7 @@ pub(crate) fn shortest<F: Shelf, O: Sink, L: Ledger>(
     out: &mut O,
     steps: &mut Steps<L>,
 ) -> Status
-    ensures { DoesJob system.now Shortest
-        (outputs_of F.Shelf O.Sink shelf.old out.old) (outputs_of F.Shelf O.Sink shelf.new out.new) result }
+    ensures { DoesJobOn F.Shelf O.Sink system.now Shortest shelf.old out.old shelf.new out.new result }
 {
     let related = match open_relation(alloc, system, shelf, out, steps) {
         Ok(related) => related,

@@ -1,8 +1,7 @@
 //! The command `synth SYSTEM`.
 ghost use Rattle.std.specs.Prelude.{◌≡◌};
-ghost use Rattle.roman_opening.specs.Outputs.{outputs_of};
 ghost use Rattle.roman_top.specs.Command.{Synth};
-ghost use Rattle.roman_top.specs.Endings.{DoesJob, status_of};
+ghost use Rattle.roman_top.specs.Endings.{DoesJobOn, status_of};
 
 use roman_io::{Shelf, Sink, Steps};
 use roman_opening::{Status, finish, open_session};
@@ -19,8 +18,7 @@ pub fn synth_report<F: Shelf, O: Sink, L: Ledger>(
     out: &mut O,
     steps: &mut Steps<L>,
 ) -> Status
-    ensures { DoesJob system.now Synth
-        (outputs_of F.Shelf O.Sink shelf.old out.old) (outputs_of F.Shelf O.Sink shelf.new out.new) result }
+    ensures { DoesJobOn F.Shelf O.Sink system.now Synth shelf.old out.old shelf.new out.new result }
 {
     let session = match open_session(alloc, system, shelf, out, steps) {
         Ok(session) => session,

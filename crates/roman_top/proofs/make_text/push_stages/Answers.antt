@@ -1,12 +1,11 @@
-use Rattle.roman_top.proofs.Common.{ap, ◌∙◌, arith, err_from_is_err_and, fill_same, fill_more, fill_failed, fill_last, line_of_stage}
+use Rattle.roman_top.proofs.Common.{fill_stops, ap, ◌∙◌, arith, fill_same, fill_more, fill_last, line_of_stage}
 use Rattle.roman_top.proofs.MakeStageLemmas.{lines_of-drop, lines_of-end}
 use Rattle.roman_top.proofs.make_text.push_stages.Goals as goal
 
 pub returns-in_err-push-clause-gathers : goal.returns-in_err-push-clause-gathers
 returns-in_err-push-clause-gathers g c =
     let next = lines_of-drop c.args.stages.now c.loop-stage.stage-index c.stage-item.result c.bytes.result.now c.loop-stage-test.true (c.bytes.ensures ∙ c.stage_piece.ensures ∙ ap line_of_stage c.stage-item.is) in
-    let p = err_from_is_err_and c.from_residual.result c.from_residual.ensures.1 in
-    rw p.1 (fill_failed _ _ _ _ _ _ _ (fill_same _ _ _ _ _ _ next c.loop-stage.invariant.filling) c.in_err-push.ensures.gathers.0, c.in_err-push.ensures.gathers.1)
+    fill_stops _ _ _ _ _ _ _ _ _ _ c.from_residual.ensures.1 (fill_same _ _ _ _ _ _ next c.loop-stage.invariant.filling) c.in_err-push.ensures.gathers
 
 pub loop-stage-preserved : goal.loop-stage-preserved
 loop-stage-preserved g c =

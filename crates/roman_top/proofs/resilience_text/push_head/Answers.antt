@@ -1,4 +1,4 @@
-use Rattle.roman_top.proofs.Common.{ℕ, ◌++◌, codes, decimal, refl, ap, ◌∙◌, err_from_is_err_and, sizes_of, pair_at, outlook, system_of, fill_behind, fill_more, fill_failed, fill_last, outlook_words}
+use Rattle.roman_top.proofs.Common.{fill_stops, ℕ, ◌++◌, codes, decimal, refl, ap, ◌∙◌, sizes_of, pair_at, outlook, system_of, fill_behind, fill_more, fill_last, outlook_words}
 use Rattle.roman_top.proofs.ResilienceTextLemmas.{head_pieces}
 use Rattle.roman_top.proofs.resilience_text.push_head.Goals as goal
 
@@ -8,8 +8,7 @@ returns-in_err-push-clause-gathers g c =
     let now = outlook (system_of n) (pair_at (sizes_of (system_of n)) c.args.p) in
     let first = c.bytes.ensures ∙ (c.services_piece-services.ensures ∙ ap (λ (m : ℕ). codes "services " ++ decimal m ++ codes "\nstart") c.seats.ensures.count) in
     let e = head_pieces n now c.bytes.result.now (outlook_words now) first refl in
-    let p = err_from_is_err_and c.from_residual.result c.from_residual.ensures.1 in
-    rw p.1 (fill_failed _ _ _ _ _ _ _ (fill_behind _ _ _ _ e) c.in_err-push.ensures.gathers.0, c.in_err-push.ensures.gathers.1)
+    fill_stops _ _ _ _ _ _ _ _ _ _ c.from_residual.ensures.1 (fill_behind _ _ _ _ e) c.in_err-push.ensures.gathers
 
 pub returns-clause-gathers : goal.returns-clause-gathers
 returns-clause-gathers g c =

@@ -1,4 +1,4 @@
-use Rattle.roman_top.proofs.Common.{ℕ, ◌+◌, ◌<◌, List, [], ◌∷◌, map, length, drop, arith, err_from_is_err_and, below, sizes_of, pair_at, system_of, fill_same, fill_more, fill_failed, fill_end, lines_without}
+use Rattle.roman_top.proofs.Common.{fill_stops, ℕ, ◌+◌, ◌<◌, List, [], ◌∷◌, map, length, drop, arith, below, sizes_of, pair_at, system_of, fill_same, fill_more, fill_end, lines_without}
 use Rattle.roman_top.proofs.ResilienceTextLemmas.{all_next, all_end}
 use Rattle.roman_top.proofs.resilience_text.push_twos.Goals as goal
 
@@ -8,8 +8,7 @@ returns-in_err-push_twos_with-clause-gathers g c =
     let with : ℕ → List (List ℕ) = λ k. map (λ (j : ℕ). k ∷ j ∷ []) (drop (k + 1) (below (length n.seats))) in
     let within : c.loop-k.k < length n.seats = omega (arith, c.seats-k-end.ensures.count) in
     let next = all_next with (lines_without n (pair_at (sizes_of (system_of n)) c.args.losses.now.pair)) (length n.seats) c.loop-k.k within in
-    let p = err_from_is_err_and c.from_residual.result c.from_residual.ensures.1 in
-    rw p.1 (fill_failed _ _ _ _ _ _ _ (fill_same _ _ _ _ _ _ next c.loop-k.invariant.filling) c.in_err-push_twos_with.ensures.gathers.0, c.in_err-push_twos_with.ensures.gathers.1)
+    fill_stops _ _ _ _ _ _ _ _ _ _ c.from_residual.ensures.1 (fill_same _ _ _ _ _ _ next c.loop-k.invariant.filling) c.in_err-push_twos_with.ensures.gathers
 
 pub loop-k-preserved : goal.loop-k-preserved
 loop-k-preserved g c = grind (arith, all_next, fill_more, fill_same)

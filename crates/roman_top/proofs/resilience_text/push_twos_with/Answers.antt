@@ -1,4 +1,4 @@
-use Rattle.roman_top.proofs.Common.{ℕ, ◌<◌, [], ◌∷◌, length, arith, err_from_is_err_and, sizes_of, pair_at, system_of, fill_same, fill_more, fill_failed, fill_end, lines_without}
+use Rattle.roman_top.proofs.Common.{fill_stops, ℕ, ◌<◌, [], ◌∷◌, length, arith, sizes_of, pair_at, system_of, fill_same, fill_more, fill_end, lines_without}
 use Rattle.roman_top.proofs.ResilienceTextLemmas.{each_next, each_end}
 use Rattle.roman_top.proofs.resilience_text.push_twos_with.Goals as goal
 
@@ -7,8 +7,7 @@ returns-in_err-push_lines-clause-gathers g c =
     let n = c.args.joint.now in
     let within : c.loop-j.j < length n.seats = omega (arith, c.seats-j-end.ensures.count) in
     let next = each_next (λ (j : ℕ). c.args.k ∷ j ∷ []) (lines_without n (pair_at (sizes_of (system_of n)) c.args.losses.now.pair)) (length n.seats) c.loop-j.j within in
-    let p = err_from_is_err_and c.from_residual.result c.from_residual.ensures.1 in
-    rw p.1 (fill_failed _ _ _ _ _ _ _ (fill_same _ _ _ _ _ _ next c.loop-j.invariant.filling) c.in_err-push_lines.ensures.gathers.0, c.in_err-push_lines.ensures.gathers.1)
+    fill_stops _ _ _ _ _ _ _ _ _ _ c.from_residual.ensures.1 (fill_same _ _ _ _ _ _ next c.loop-j.invariant.filling) c.in_err-push_lines.ensures.gathers
 
 pub loop-j-preserved : goal.loop-j-preserved
 loop-j-preserved g c = grind (arith, each_next, fill_more, fill_same)
