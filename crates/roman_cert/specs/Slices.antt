@@ -1,5 +1,5 @@
 -- The texts of an explanation, for entries and lists over the numbers of pairs.
-use Rattle.std.specs.Prelude.{◌≡◌, ℕ, ◌<◌, ◌||◌, List, Some, [], ◌∷◌, ◌++◌, codes, length, map, slice_get, slice_index, if◌then◌else◌}
+use Rattle.std.specs.Prelude.{◌≡◌, ℕ, ◌<◌, ◌||◌, List, Some, [], ◌∷◌, ◌++◌, ◌&&◌, codes, length, map, slice_get, slice_index, if◌then◌else◌}
 use Rattle.std.specs.List.{flat_map}
 use Rattle.roman_model.specs.Lines.{text_of_lines}
 use Rattle.roman_model.specs.Arena.{Arena, Entry, is_among, IsOrder}

@@ -89,10 +89,10 @@ fn push_entry<O: Sink>(
     ensures cause { FailsWith O.Sink out.old out.new result }
 {
     let Some(letter) = letter_of(reason) else {
-        return push_parts(pair, reason, page, out);
+        return push_entry_line(pair, reason, page, out);
     };
     if pair < 100 {
-        return push_parts(pair, reason, page, out);
+        return push_entry_line(pair, reason, page, out);
     }
     template.put(pair, letter);
     page.push_short(&template.text, template.len, out)
@@ -100,7 +100,7 @@ fn push_entry<O: Sink>(
 
 /// Pushes the line of an entry on the page, from its number and its reason.
 #[inline(never)]
-fn push_parts<O: Sink>(
+fn push_entry_line<O: Sink>(
     pair: u32,
     reason: Reason,
     page: &mut Page,

@@ -39,8 +39,8 @@ pub(crate) fn push_lost<O: Sink>(
         (lost_text joint.now (as_entry (p, reason))) result }
     ensures cause { FailsWith O.Sink out.old out.new result }
 {
-    let parts = parts_piece(joint, p);
-    page.push(parts.bytes(), out)?;
+    let pair = pair_piece(joint, p);
+    page.push(pair.bytes(), out)?;
     for k in 0..joint.seats() {
         let state = state_piece(joint, p, k);
         page.push(state.bytes(), out)?;
@@ -50,7 +50,7 @@ pub(crate) fn push_lost<O: Sink>(
 }
 
 /// Returns the beginning of a pair's line: the states of the target and the environment.
-fn parts_piece(joint: &Joint, p: u32) -> Piece
+fn pair_piece(joint: &Joint, p: u32) -> Piece
     requires { p < joint_pairs joint.now }
     ensures { let q = joint_pair joint.now p in
         result ≡ codes "lost " ++ name_at (names_in joint.now).target q.t

@@ -61,7 +61,7 @@ pub fn write_slice<O: Sink, L: Ledger>(
 {
     relation.joint.known(); // the system is well formed
     relation.order.known(); // listed pairs are pairs of the system
-    relation.order.place_all();
+    relation.order.stamp_all();
     mark_slice(&relation.joint, &mut relation.order, p, steps);
     write_marked(&relation.joint, &relation.order, out, steps)
 }

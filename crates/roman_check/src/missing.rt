@@ -62,7 +62,7 @@ fn misses_some<J: Rules>(joint: &J, words: &[u64], y: u32, resting: u64, left: &
 /// Returns a number of rows, from the first row on, that miss no pair. `words` has the bits of the
 /// pairs that aren't listed. Searches band by band, and stops at the first band that may miss a pair.
 #[tactic(auto, using(std::proofs::lemmas::Nat::row_fits, roman_model::proofs::CallerLemmas::mul_cancel))]
-fn rows_before<J: Rules>(joint: &J, words: &[u64]) -> u32
+fn rows_complete<J: Rules>(joint: &J, words: &[u64]) -> u32
     requires { HaveBits J.Rules joint.now words.now }
     ensures { NoneMissing (J.arena joint.now) (J.lanes joint.now) words.now (result * J.lanes joint.now) }
 {
@@ -89,7 +89,7 @@ pub(crate) fn first_missing<J: Rules>(joint: &J, words: &[u64]) -> Option<u32>
 {
     joint.known(); // a pair's number fits in 32 bits, a row has 1 to 64 lanes
     let lanes = joint.lanes();
-    for x in rows_before(joint, words)..joint.rows() {
+    for x in rows_complete(joint, words)..joint.rows() {
         let missing = missing_in(joint, words, x);
         if missing != 0 {
             return Some((x * lanes).wrapping_add(missing.trailing_zeros()));

@@ -39,9 +39,9 @@ pub use Rattle.serde_json.proofs.Views.{items_len-items_view}
 pub use Rattle.serde_json.specs.View.{items_view}
 pub use Rattle.roman_cost.specs.AdviceText.{certificate_text, choice_line, service_text, value_head, value_line, value_lines, value_tail, worst_line}
 unfoldable pub use Rattle.roman_cost.specs.AdviceText.{advice_text}
-pub use Rattle.roman_cost.specs.Advised.{AdviceTable, Advises, HavePlaces, related_pairs, value_rows}
-pub use Rattle.roman_cost.specs.Costs.{cost_step}
-pub use Rattle.roman_cost.specs.Filling.{AreOutcomes, IsCostRow, IsOffered, IsRanked, better_of, ranked}
+pub use Rattle.roman_cost.specs.Advised.{AdviceTable, Advises, HavePlaces, related_pairs, values_below}
+pub use Rattle.roman_cost.specs.Costs.{with_cost}
+pub use Rattle.roman_cost.specs.Filling.{AreLeastCosts, AreOutcomes, IsOffered, IsRanked, better_of, ranked}
 pub use Rattle.roman_cost.specs.Laws.{AdviceIsLeast}
 pub use Rattle.roman_cost.specs.ServingPlans.{CostsBy, Event, IsCheapest, IsLeastCost, IsServingPlan, IsWorstCost, MayCome, cost_of_events}
 pub use Rattle.roman_cost.specs.Tables.{AreOf, CostTable, HoldsCosts, cost_of, listed_cost, seat_costs}

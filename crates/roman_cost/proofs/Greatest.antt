@@ -12,7 +12,7 @@ max_over-flat_map : {X Y : Type 0} (f : Y → ℕ) (g : X → List Y) (xs : List
 max_over-flat_map f g [] = refl
 max_over-flat_map f g (x ∷ xs) = max_over-append f (g x) (flat_map g xs) ∙ ap (max (max_over f (g x))) (max_over-flat_map f g xs)
 
--- the greatest of the rows' greatest values is the greatest over all rows
+-- the greatest of the lists' greatest values is the greatest over all lists
 pub max_all : {Y : Type 0} (f : Y → ℕ) (g : ℕ → ℕ → Y) (envs states : List ℕ) (best : ℕ) → best ≡ max_over (λ e. max_over (λ b. f (g e b)) states) envs →
     best ≡ max_over f (flat_map (λ e. map (g e) states) envs)
 max_all f g envs states best is = grind (arith, max_over-flat_map, max_over-map)

@@ -1,7 +1,7 @@
 mod CostLemmas
 mod Greatest
 mod Best
-mod Rows
+mod Values
 mod Ranks
 mod OfferedSeats
 mod TermLemmas

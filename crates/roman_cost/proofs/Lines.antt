@@ -26,22 +26,22 @@ value_parts : (h p value : ℕ) → value_head h ++ value_tail p value ≡ value
 value_parts h p value = in_parts (codes "value ") (decimal h) (codes " ") (decimal p) (codes " ") (decimal value) (codes "\n")
 
 -- the line of the pair at a place can be taken next
-pub value_taken : (old now : Option (List ℕ)) (held all : List ℕ) (s : Sys) (C : Costs) (h : ℕ) (items pairs row : List ℕ) (i : ℕ) (head : List ℕ) → items ≡ pairs → i < length items → row ≡ map (least_at s C h) pairs → head ≡ value_head h →
+pub value_taken : (old now : Option (List ℕ)) (held all : List ℕ) (s : Sys) (C : Costs) (h : ℕ) (items pairs values : List ℕ) (i : ℕ) (head : List ℕ) → items ≡ pairs → i < length items → values ≡ map (least_at s C h) pairs → head ≡ value_head h →
     IsFilling old now held (flat_map (λ p. value_line h p (least_at s C h p)) (drop i pairs)) all →
-    IsFilling old now held ((head ++ value_tail (get_or items i 0) (get_or row i 0)) ++ flat_map (λ p. value_line h p (least_at s C h p)) (drop (i + 1) pairs)) all
-value_taken old now held all s C h items pairs row i head at l told begins filling =
-    let next : flat_map (λ p. value_line h p (least_at s C h p)) (drop i pairs) ≡ (head ++ value_tail (get_or items i 0) (get_or row i 0)) ++ flat_map (λ p. value_line h p (least_at s C h p)) (drop (i + 1) pairs) =
+    IsFilling old now held ((head ++ value_tail (get_or items i 0) (get_or values i 0)) ++ flat_map (λ p. value_line h p (least_at s C h p)) (drop (i + 1) pairs)) all
+value_taken old now held all s C h items pairs values i head at l told begins filling =
+    let next : flat_map (λ p. value_line h p (least_at s C h p)) (drop i pairs) ≡ (head ++ value_tail (get_or items i 0) (get_or values i 0)) ++ flat_map (λ p. value_line h p (least_at s C h p)) (drop (i + 1) pairs) =
     grind (arith, as_taken, get_or-map, next_text, value_parts) in
     fill_same _ _ _ _ _ _ next filling
 
--- the next row has the values for one more request
-pub next_row : (s : Sys) (C : Costs) (n h : ℕ) → h < n →
+-- the next lines have the values for one more request
+pub next_lines : (s : Sys) (C : Costs) (n h : ℕ) → h < n →
     flat_map (λ h. value_lines s C (suc h)) (drop h (below n)) ≡ value_lines s C (h + 1) ++ flat_map (λ h. value_lines s C (suc h)) (drop (h + 1) (below n))
-next_row s C n h l = grind (arith, from_place)
+next_lines s C n h l = grind (arith, from_place)
 
--- no rows remain after the last one
-pub no_row : (s : Sys) (C : Costs) (n h : ℕ) → n ≤ h → flat_map (λ h. value_lines s C (suc h)) (drop h (below n)) ≡ []
-no_row s C n h l = ap (flat_map (λ h. value_lines s C (suc h))) (from_end n h l)
+-- no lines remain after those for the greatest number of requests
+pub no_lines : (s : Sys) (C : Costs) (n h : ℕ) → n ≤ h → flat_map (λ h. value_lines s C (suc h)) (drop h (below n)) ≡ []
+no_lines s C n h l = ap (flat_map (λ h. value_lines s C (suc h))) (from_end n h l)
 
 -- ---- actions
 

@@ -1,8 +1,8 @@
 -- The offered seats of a related pair: each has outcomes, all of them are related, and its cost is the one that the definition gives.
-use Rattle.roman_cost.proofs.Common.{Outcomes, AreOutcomes, IsCostRow, IsOffered, ranked, IsRanked, IsPairWith, outcome_number, outcome_numbers, Sizes, sizes_of, count, pair_at, number, numbered, MAX_CELLS, in_flat_map, from_map, in_map, not_empty_in, ne_not_empty, outcome_pair, great_related, offer_is, numbers_are_pairs, max_over_le, number_listed, not_empty_ne, in_not_empty, outcome_seat, through_numbered, max_over_same, least_bound, related_great, related_offers, get_or, ◌≡◌, ◌≢◌, ℕ, ◌+◌, ◌*◌, ◌<◌, ◌≤◌, Bool, List, [], ◌∷◌, map, length, filter, slice_index, IsTrue, All, refl, sym, ap, ◌∙◌, subst, arith, Option, Some, ◌^◌, IsIn, below, Sys, Pair, IsSys, IsPair, has, outcomes, is_allowed, is_related, offers, Costs, max_over, least, least_at, choice, through, cond-true, has_seat_is, related_pairs, MAX_COST, HasBits, has_seat, length-map, NamedSys, system_of, seat_of, in_at, all_in, no_numbers}
+use Rattle.roman_cost.proofs.Common.{Outcomes, AreOutcomes, AreLeastCosts, IsOffered, ranked, IsRanked, IsPairWith, outcome_number, outcome_numbers, Sizes, sizes_of, count, pair_at, number, numbered, MAX_CELLS, in_flat_map, from_map, in_map, not_empty_in, ne_not_empty, outcome_pair, great_related, offer_is, numbers_are_pairs, max_over_le, number_listed, not_empty_ne, in_not_empty, outcome_seat, through_numbered, max_over_same, least_bound, related_great, related_offers, get_or, ◌≡◌, ◌≢◌, ℕ, ◌+◌, ◌*◌, ◌<◌, ◌≤◌, Bool, List, [], ◌∷◌, map, length, filter, slice_index, IsTrue, All, refl, sym, ap, ◌∙◌, subst, arith, Option, Some, ◌^◌, IsIn, below, Sys, Pair, IsSys, IsPair, has, outcomes, is_allowed, is_related, offers, Costs, max_over, least, least_at, choice, through, cond-true, has_seat_is, related_pairs, MAX_COST, HasBits, has_seat, length-map, NamedSys, system_of, seat_of, in_at, all_in, no_numbers}
 use Rattle.std.proofs.Common.{flat_map}
 use Rattle.roman_cost.proofs.Best.{best_of, best_of-first, filter_has}
-use Rattle.roman_cost.proofs.Rows.{all_from}
+use Rattle.roman_cost.proofs.Values.{all_from}
 use Rattle.roman_cost.proofs.Ranks.{in_related, ranked_value}
 
 -- an offered seat has outcomes, and leads only to related pairs
@@ -34,21 +34,21 @@ told_offered s p a k bits has_it ok l tell few is it =
     let seats = offers s (pair_at (sizes_of s) p) a in
     offered s p a k ok l (number_listed seats k (sym (has_seat_is bits (has seats) k tell few) ∙ (sym is ∙ it)))
 
-pub offered_ranked : (s : Sys) (C : Costs) (h p a k : ℕ) (ranks row : List ℕ) → IsOffered s p a k → IsCostRow s C h ranks row → All (IsRanked ranks row) ((numbered s).outcomes p a k)
-offered_ranked s C h p a k ranks row is known =
-    let long : length row ≡ length (related_pairs s) = ap length known.values ∙ length-map (related_pairs s) (least_at s C h) in
-    all_from (IsRanked ranks row) ((numbered s).outcomes p a k) (λ q i. (known.places.within q (is.related q i), subst (λ m. slice_index ranks q < m) (sym long) (known.places.below q (is.related q i))))
+pub offered_ranked : (s : Sys) (C : Costs) (h p a k : ℕ) (ranks later : List ℕ) → IsOffered s p a k → AreLeastCosts s C h ranks later → All (IsRanked ranks later) ((numbered s).outcomes p a k)
+offered_ranked s C h p a k ranks later is known =
+    let long : length later ≡ length (related_pairs s) = ap length known.values ∙ length-map (related_pairs s) (least_at s C h) in
+    all_from (IsRanked ranks later) ((numbered s).outcomes p a k) (λ q i. (known.places.within q (is.related q i), subst (λ m. slice_index ranks q < m) (sym long) (known.places.below q (is.related q i))))
 
--- the cost of an offered seat, by a row for the requests that follow
-pub cost_is : (s : Sys) (C : Costs) (h p a k : ℕ) (ranks row : List ℕ) → IsOffered s p a k → IsCostRow s C h ranks row →
-    C k a + max_over (ranked ranks row) ((numbered s).outcomes p a k) ≡ through s C (least s C h) (pair_at (sizes_of s) p) a k
-cost_is s C h p a k ranks row is known =
-    ap (λ m. C k a + m) (max_over_same (ranked ranks row) (least_at s C h) ((numbered s).outcomes p a k)
-    (λ q j. ranked_value s C h (related_pairs s) ranks row q known.places (is.related q j) known.values)) ∙ through_numbered s C h p a k known.system is.pair
+-- the cost of an offered seat, by the costs of the requests that follow
+pub cost_is : (s : Sys) (C : Costs) (h p a k : ℕ) (ranks later : List ℕ) → IsOffered s p a k → AreLeastCosts s C h ranks later →
+    C k a + max_over (ranked ranks later) ((numbered s).outcomes p a k) ≡ through s C (least s C h) (pair_at (sizes_of s) p) a k
+cost_is s C h p a k ranks later is known =
+    ap (λ m. C k a + m) (max_over_same (ranked ranks later) (least_at s C h) ((numbered s).outcomes p a k)
+    (λ q j. ranked_value s C h (related_pairs s) ranks later q known.places (is.related q j) known.values)) ∙ through_numbered s C h p a k known.system is.pair
 
 -- every cost is a number of 32 bits
-pub through_fits : (s : Sys) (C : Costs) (h a k : ℕ) (P : Pair) (ranks row : List ℕ) → IsCostRow s C h ranks row → through s C (least s C h) P a k < 2 ^ 32
-through_fits s C h a k P ranks row known =
+pub through_fits : (s : Sys) (C : Costs) (h a k : ℕ) (P : Pair) (ranks later : List ℕ) → AreLeastCosts s C h ranks later → through s C (least s C h) P a k < 2 ^ 32
+through_fits s C h a k P ranks later known =
     let own : C k a ≤ MAX_COST = known.cheap k a in
     let rest : max_over (least s C h) (outcomes s P a k) ≤ h * MAX_COST = max_over_le (least s C h) (h * MAX_COST) (outcomes s P a k) (λ Q i. least_bound s C MAX_COST h Q known.cheap) in
     let few = known.few in

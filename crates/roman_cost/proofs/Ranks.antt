@@ -51,8 +51,8 @@ ranks_done q n pairs ranks ps rs = subst (λ xs. HavePlaces xs ranks) (sym ps) (
     is : (p : ℕ) → p < n → slice_index (map (rank q) (below n)) p ≡ rank q p
     is p l = get_or-map (rank q) (below n) p 0 0 (subst (λ m. p < m) (sym (length-below n)) l) ∙ ap (rank q) (get_or-below n p 0 l)
 
--- the value of a related pair, in a row for all of them
-pub ranked_value : (s : Sys) (C : Costs) (h : ℕ) (pairs ranks row : List ℕ) (p : ℕ) → HavePlaces pairs ranks → IsIn p pairs → row ≡ map (least_at s C h) pairs →
-    ranked ranks row p ≡ least_at s C h p
-ranked_value s C h pairs ranks row p are i is =
+-- the value of a related pair, among those of all of them
+pub ranked_value : (s : Sys) (C : Costs) (h : ℕ) (pairs ranks values : List ℕ) (p : ℕ) → HavePlaces pairs ranks → IsIn p pairs → values ≡ map (least_at s C h) pairs →
+    ranked ranks values p ≡ least_at s C h p
+ranked_value s C h pairs ranks values p are i is =
     ap (λ xs. get_or xs (slice_index ranks p) 0) is ∙ get_or-map (least_at s C h) pairs (slice_index ranks p) 0 0 (are.below p i) ∙ ap (least_at s C h) (are.at p i)

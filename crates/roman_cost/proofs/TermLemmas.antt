@@ -1,5 +1,5 @@
 -- The values of the terms of related pairs.
-use Rattle.roman_cost.proofs.Common.{◌≡◌, ◌≢◌, ℕ, suc, ◌+◌, ◌-◌, Bool, true, false, List, [], ◌∷◌, ◌++◌, map, length, take, drop, filter, Option, Some, None, unwrap_or, IsTrue, refl, sym, ap, ap₂, ◌∙◌, inl, inr, subst, arith, append_assoc, append-nil, max, min, flat_map, take-append-drop, map-append, IsIn, below, Sys, Pair, is_allowed, sizes_of, pair_at, numbered, offers, Costs, max_over, least_from, first_least, least, least_at, choice, through, allowed_actions, filter_in, related_great, numbers_are_pairs, related_offers, in_append_right, related_pairs, ranked, IsOffered, IsCostRow, nothing_yet, worked_out, outcome_terms, service_terms, action_terms, pair_terms, cheaper_of, Term, Standing, flat_map-append, rest_is}
+use Rattle.roman_cost.proofs.Common.{◌≡◌, ◌≢◌, ℕ, suc, ◌+◌, ◌-◌, Bool, true, false, List, [], ◌∷◌, ◌++◌, map, length, take, drop, filter, Option, Some, None, unwrap_or, IsTrue, refl, sym, ap, ap₂, ◌∙◌, inl, inr, subst, arith, append_assoc, append-nil, max, min, flat_map, take-append-drop, map-append, IsIn, below, Sys, Pair, is_allowed, sizes_of, pair_at, numbered, offers, Costs, max_over, least_from, first_least, least, least_at, choice, through, allowed_actions, filter_in, related_great, numbers_are_pairs, related_offers, in_append_right, related_pairs, ranked, IsOffered, AreLeastCosts, nothing_yet, worked_out, outcome_terms, service_terms, action_terms, pair_terms, cheaper_of, Term, Standing, flat_map-append, rest_is}
 use Rattle.roman_cost.specs.declared.terms.Term.TheVariants as term
 use Rattle.roman_cost.proofs.OfferedSeats.{cost_is, through_fits, offered}
 use Rattle.roman_cost.proofs.Best.{filter_taken, filter_passed}
@@ -23,14 +23,14 @@ abbrev standing : ℕ → Option ℕ → ℕ → Standing
 standing w c d = record { worst = w; cheapest = c; dearest = d }
 
 -- outcomes raise the greatest value so far
-worked_outcomes : (ranks row qs : List ℕ) (rest : List Term) (w : ℕ) (c : Option ℕ) (d : ℕ) →
-    worked_out row (outcome_terms ranks qs ++ rest) (standing w c d) ≡ worked_out row rest (standing w c (max d (max_over (ranked ranks row) qs)))
-worked_outcomes ranks row [] rest w c d = let e : d ≡ max d 0 = omega arith in ap (λ m. worked_out row rest (standing w c m)) e
-worked_outcomes ranks row (q ∷ qs) rest w c d =
-    let v = ranked ranks row q in
-    let m = max_over (ranked ranks row) qs in
+worked_outcomes : (ranks later qs : List ℕ) (rest : List Term) (w : ℕ) (c : Option ℕ) (d : ℕ) →
+    worked_out later (outcome_terms ranks qs ++ rest) (standing w c d) ≡ worked_out later rest (standing w c (max d (max_over (ranked ranks later) qs)))
+worked_outcomes ranks later [] rest w c d = let e : d ≡ max d 0 = omega arith in ap (λ m. worked_out later rest (standing w c m)) e
+worked_outcomes ranks later (q ∷ qs) rest w c d =
+    let v = ranked ranks later q in
+    let m = max_over (ranked ranks later) qs in
     let e : max (max d v) m ≡ max d (max v m) = omega arith in
-    worked_outcomes ranks row qs rest w c (max d v) ∙ ap (λ m. worked_out row rest (standing w c m)) e
+    worked_outcomes ranks later qs rest w c (max d v) ∙ ap (λ m. worked_out later rest (standing w c m)) e
 
 -- the cost through the cheapest of some services, after the best cost so far
 abbrev cheapest_of : (ℕ → ℕ) → Option ℕ → List ℕ → Option ℕ
@@ -45,65 +45,65 @@ cheapest_first : (f : ℕ → ℕ) (ks : List ℕ) → ks ≢ [] → cheapest_of
 cheapest_first f [] some = absurd (some refl)
 cheapest_first f (k ∷ ks) some = cheapest_from f k ks
 
-module _ (s : Sys) (C : Costs) (h : ℕ) (ranks row : List ℕ) (known : IsCostRow s C h ranks row) where
+module _ (s : Sys) (C : Costs) (h : ℕ) (ranks later : List ℕ) (known : AreLeastCosts s C h ranks later) where
   -- the cost of h + 1 requests of which the first is a and goes to seat k
   abbrev cost : ℕ → ℕ → ℕ → ℕ
   cost p a k = through s C (least s C h) (pair_at (sizes_of s) p) a k
 
   worked_services : (p a : ℕ) (ks : List ℕ) (rest : List Term) (w : ℕ) (c : Option ℕ) → ((k : ℕ) → IsIn k ks → IsOffered s p a k) →
-      worked_out row (flat_map (service_terms s C ranks p a) ks ++ rest) (standing w c 0) ≡ worked_out row rest (standing w (cheapest_of (cost p a) c ks) 0)
+      worked_out later (flat_map (service_terms s C ranks p a) ks ++ rest) (standing w c 0) ≡ worked_out later rest (standing w (cheapest_of (cost p a) c ks) 0)
   worked_services p a [] rest w c each = refl
   worked_services p a (k ∷ ks) rest w c each =
       let qs = (numbered s).outcomes p a k in
       let more = flat_map (service_terms s C ranks p a) ks ++ rest in
-      let is = cost_is s C h p a k ranks row (each k (inl refl)) known in
-      let small = through_fits s C h a k (pair_at (sizes_of s) p) ranks row known in
-      let fits : min (C k a + max 0 (max_over (ranked ranks row) qs)) 4294967295 ≡ cost p a k = omega arith in
-      ap (λ ts. worked_out row ts (standing w c 0))
+      let is = cost_is s C h p a k ranks later (each k (inl refl)) known in
+      let small = through_fits s C h a k (pair_at (sizes_of s) p) ranks later known in
+      let fits : min (C k a + max 0 (max_over (ranked ranks later) qs)) 4294967295 ≡ cost p a k = omega arith in
+      ap (λ ts. worked_out later ts (standing w c 0))
       (append_assoc (service_terms s C ranks p a k) (flat_map (service_terms s C ranks p a) ks) rest ∙ append_assoc (outcome_terms ranks qs) (term.Service (C k a) ∷ []) more)
-      ∙ worked_outcomes ranks row qs (term.Service (C k a) ∷ more) w c 0
-      ∙ ap (λ n. worked_out row more (standing w (Some (cheaper_of c n)) 0)) fits
+      ∙ worked_outcomes ranks later qs (term.Service (C k a) ∷ more) w c 0
+      ∙ ap (λ n. worked_out later more (standing w (Some (cheaper_of c n)) 0)) fits
       ∙ worked_services p a ks rest w (Some (cheaper_of c (cost p a k))) (λ j i. each j (inr i))
 
   worked_action : (p a : ℕ) (rest : List Term) (w : ℕ) → IsIn p (related_pairs s) → IsTrue (is_allowed s (pair_at (sizes_of s) p) a) →
-      worked_out row (action_terms s C ranks p a ++ rest) (standing w None 0) ≡ worked_out row rest (standing (max w (cost p a (choice s C h (pair_at (sizes_of s) p) a))) None 0)
+      worked_out later (action_terms s C ranks p a ++ rest) (standing w None 0) ≡ worked_out later rest (standing (max w (cost p a (choice s C h (pair_at (sizes_of s) p) a))) None 0)
   worked_action p a rest w i allowed =
       let P : Pair = pair_at (sizes_of s) p in
       let l = related_below s p i in
       let great = related_great s P known.system ((numbers_are_pairs s).pair p l) (related_is s p i) in
-      ap (λ ts. worked_out row ts (standing w None 0)) (append_assoc (flat_map (service_terms s C ranks p a) (offers s P a)) (term.Action ∷ []) rest)
+      ap (λ ts. worked_out later ts (standing w None 0)) (append_assoc (flat_map (service_terms s C ranks p a) (offers s P a)) (term.Action ∷ []) rest)
       ∙ worked_services p a (offers s P a) (term.Action ∷ rest) w None (λ k. offered s p a k known.system l)
-      ∙ ap (λ (o : Option ℕ). worked_out row rest (standing (max w (unwrap_or o 0)) None 0)) (cheapest_first (cost p a) (offers s P a) (related_offers s P a known.system great allowed))
+      ∙ ap (λ (o : Option ℕ). worked_out later rest (standing (max w (unwrap_or o 0)) None 0)) (cheapest_first (cost p a) (offers s P a) (related_offers s P a known.system great allowed))
 
   worked_actions : (p : ℕ) (acts : List ℕ) (rest : List Term) (w : ℕ) → IsIn p (related_pairs s) → ((a : ℕ) → IsIn a acts → IsTrue (is_allowed s (pair_at (sizes_of s) p) a)) →
-      worked_out row (flat_map (action_terms s C ranks p) acts ++ rest) (standing w None 0)
-      ≡ worked_out row rest (standing (max w (max_over (λ a. cost p a (choice s C h (pair_at (sizes_of s) p) a)) acts)) None 0)
-  worked_actions p [] rest w related allowed = let e : w ≡ max w 0 = omega arith in ap (λ m. worked_out row rest (standing m None 0)) e
+      worked_out later (flat_map (action_terms s C ranks p) acts ++ rest) (standing w None 0)
+      ≡ worked_out later rest (standing (max w (max_over (λ a. cost p a (choice s C h (pair_at (sizes_of s) p) a)) acts)) None 0)
+  worked_actions p [] rest w related allowed = let e : w ≡ max w 0 = omega arith in ap (λ m. worked_out later rest (standing m None 0)) e
   worked_actions p (a ∷ acts) rest w related allowed =
       let f : ℕ → ℕ = λ a. cost p a (choice s C h (pair_at (sizes_of s) p) a) in
       let e : max (max w (f a)) (max_over f acts) ≡ max w (max (f a) (max_over f acts)) = omega arith in
-      ap (λ ts. worked_out row ts (standing w None 0)) (append_assoc (action_terms s C ranks p a) (flat_map (action_terms s C ranks p) acts) rest)
+      ap (λ ts. worked_out later ts (standing w None 0)) (append_assoc (action_terms s C ranks p a) (flat_map (action_terms s C ranks p) acts) rest)
       ∙ worked_action p a (flat_map (action_terms s C ranks p) acts ++ rest) w related (allowed a (inl refl))
-      ∙ worked_actions p acts rest (max w (f a)) related (λ b i. allowed b (inr i)) ∙ ap (λ m. worked_out row rest (standing m None 0)) e
+      ∙ worked_actions p acts rest (max w (f a)) related (λ b i. allowed b (inr i)) ∙ ap (λ m. worked_out later rest (standing m None 0)) e
 
   -- the terms of related pairs give their values for one more request
-  pub worked_pairs : (ps : List ℕ) → ((p : ℕ) → IsIn p ps → IsIn p (related_pairs s)) → worked_out row (flat_map (pair_terms s C ranks) ps) nothing_yet ≡ map (least_at s C (suc h)) ps
+  pub worked_pairs : (ps : List ℕ) → ((p : ℕ) → IsIn p ps → IsIn p (related_pairs s)) → worked_out later (flat_map (pair_terms s C ranks) ps) nothing_yet ≡ map (least_at s C (suc h)) ps
   worked_pairs [] related = refl
   worked_pairs (p ∷ ps) related =
       let P : Pair = pair_at (sizes_of s) p in
       let rest = flat_map (pair_terms s C ranks) ps in
       let v : ℕ = least_at s C (suc h) p in
       let e : max 0 v ≡ v = omega arith in
-      ap (λ ts. worked_out row ts nothing_yet) (append_assoc (flat_map (action_terms s C ranks p) (allowed_actions s P)) (term.Pair ∷ []) rest)
+      ap (λ ts. worked_out later ts nothing_yet) (append_assoc (flat_map (action_terms s C ranks p) (allowed_actions s P)) (term.Pair ∷ []) rest)
       ∙ worked_actions p (allowed_actions s P) (term.Pair ∷ rest) 0 (related p (inl refl)) (λ a i. (filter_in (is_allowed s P) a (below s.env.actions) i).1)
-      ∙ ap (λ m. m ∷ worked_out row rest nothing_yet) e
+      ∙ ap (λ m. m ∷ worked_out later rest nothing_yet) e
       ∙ ap (λ vs. v ∷ vs) (worked_pairs ps (λ q i. related q (inr i)))
 
   -- the terms of one pair in an empty list give its value
   pub one_worked : (p : ℕ) (cleared terms : List Term) (values after : List ℕ) → IsIn p (related_pairs s) →
-      cleared ≡ [] → terms ≡ cleared ++ pair_terms s C ranks p → after ≡ values ++ worked_out row terms nothing_yet → after ≡ values ++ least_at s C (suc h) p ∷ []
+      cleared ≡ [] → terms ≡ cleared ++ pair_terms s C ranks p → after ≡ values ++ worked_out later terms nothing_yet → after ≡ values ++ least_at s C (suc h) p ∷ []
   one_worked p cleared terms values after i empty made worked =
-      worked ∙ ap (λ ts. values ++ worked_out row ts nothing_yet) (made ∙ ap (λ ts. ts ++ pair_terms s C ranks p) empty ∙ sym (append-nil (pair_terms s C ranks p)))
+      worked ∙ ap (λ ts. values ++ worked_out later ts nothing_yet) (made ∙ ap (λ ts. ts ++ pair_terms s C ranks p) empty ∙ sym (append-nil (pair_terms s C ranks p)))
       ∙ ap (λ vs. values ++ vs) (worked_pairs (p ∷ []) (λ q j. elim j [ inl e ↦ subst (λ m. IsIn m (related_pairs s)) (sym e) i | inr none ↦ absurd none ]))
 
 pub rest_in : (xs : List ℕ) (n p : ℕ) → IsIn p (take (length xs - n) (drop n xs)) → IsIn p xs

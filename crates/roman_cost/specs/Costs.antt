@@ -29,9 +29,9 @@ cost_item behaviours actions i d = do
   cost ← check (nat_le number MAX_COST) kind.Count list.Steps i number
   Ok (record { behaviour = behaviour; action = action; cost = cost })
 
--- item i after the earlier items, none of which is for the same behaviour and action
-unfoldable pub cost_step : List (List ℕ) → List (List ℕ) → ℕ → List Listed → Data → Result (List Listed) PartError
-cost_step behaviours actions i listed d = do
+-- the costs before item i, none of which is for the same behaviour and action, with the cost in item i
+unfoldable pub with_cost : List (List ℕ) → List (List ℕ) → ℕ → List Listed → Data → Result (List Listed) PartError
+with_cost behaviours actions i listed d = do
   item ← cost_item behaviours actions i d
   check (is_none (listed_cost listed item.behaviour item.action)) kind.Repeated list.Steps i (listed ++ item ∷ [])
 
@@ -40,14 +40,14 @@ unfoldable pub costs_in : List (List ℕ) → List (List ℕ) → Data → Resul
 costs_in behaviours actions d = do
   items ← looked list.Whole 0 (list_of d)
   few ← check (nat_le (items_len items) MAX_COSTS) kind.Count list.Whole 0 items
-  each_item (cost_step behaviours actions) 0 [] few
+  each_item (with_cost behaviours actions) 0 [] few
 
 -- the costs of a value for the behaviours and actions of a system
 abbrev pub item_for : NamedSys → ℕ → Data → Result Listed PartError
 item_for n = cost_item (map beh_name n.catalogue) n.environment.actions
 
-abbrev pub step_for : NamedSys → ℕ → List Listed → Data → Result (List Listed) PartError
-step_for n = cost_step (map beh_name n.catalogue) n.environment.actions
+abbrev pub with_cost_for : NamedSys → ℕ → List Listed → Data → Result (List Listed) PartError
+with_cost_for n = with_cost (map beh_name n.catalogue) n.environment.actions
 
 abbrev pub costs_for : NamedSys → Data → Result (List Listed) PartError
 costs_for n = costs_in (map beh_name n.catalogue) n.environment.actions

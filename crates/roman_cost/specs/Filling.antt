@@ -20,14 +20,14 @@ pub record CanFill (relation : Relation) (costs : CostTable) (ranks : List ℕ) 
   pub priced : AreOf relation.joint costs
   pub places : HavePlaces (related_pairs (system_of relation.joint)) ranks
 
--- a row has the least costs of h requests at the related pairs, where each cost is within its limit and h + 1 is within the
+-- the values are the least costs of h requests at the related pairs, where each cost is within its limit and h + 1 is within the
 -- limit of requests
-pub record IsCostRow (s : Sys) (C : Costs) (h : ℕ) (ranks row : List ℕ) : Type 0 where
+pub record AreLeastCosts (s : Sys) (C : Costs) (h : ℕ) (ranks later : List ℕ) : Type 0 where
   pub system : IsSys s
   pub cheap : (k a : ℕ) → C k a ≤ MAX_COST
   pub few : h < MAX_REQUESTS
   pub places : HavePlaces (related_pairs s) ranks
-  pub values : row ≡ map (least_at s C h) (related_pairs s)
+  pub values : later ≡ map (least_at s C h) (related_pairs s)
 
 -- the seat k can serve the allowed action a at the pair with the number p, and leads only to related pairs
 pub record IsOffered (s : Sys) (p a k : ℕ) : Type 0 where
@@ -38,13 +38,13 @@ pub record IsOffered (s : Sys) (p a k : ℕ) : Type 0 where
   pub some : (numbered s).outcomes p a k ≢ []
   pub related : (q : ℕ) → IsIn q ((numbered s).outcomes p a k) → IsIn q (related_pairs s)
 
--- the value of a pair in a row, at the place of its rank
+-- the value of a pair, at the place of its rank
 abbrev pub ranked : List ℕ → List ℕ → ℕ → ℕ
-ranked ranks row p = slice_index row (slice_index ranks p)
+ranked ranks later p = slice_index later (slice_index ranks p)
 
--- the pair has a rank, and the row has a value at that place
+-- the pair has a rank, and there is a value at that place
 abbrev pub IsRanked : List ℕ → List ℕ → ℕ → Type 0
-IsRanked ranks row p = (p < length ranks) × (slice_index ranks p < length row)
+IsRanked ranks later p = (p < length ranks) × (slice_index ranks p < length later)
 
 -- the outcomes are numbers of 32 bits with the property
 pub record AreOutcomes (P : ℕ → Type 0) (o : Outcomes) : Type 0 where

@@ -12,7 +12,7 @@ use Rattle.roman_relation.specs.Greatest.{IsRelation}
 use Rattle.roman_relation.specs.declared.relation.Relation.{Relation}
 use Rattle.roman_cost.specs.AdviceText.{advice_text, choice_line}
 use Rattle.roman_cost.specs.Advised.{AdviceTable, Advises, related_pairs}
-use Rattle.roman_cost.specs.Filling.{IsCostRow}
+use Rattle.roman_cost.specs.Filling.{AreLeastCosts}
 use Rattle.roman_cost.specs.Tables.{AreOf, CostTable, seat_costs}
 use Rattle.roman_cost.specs.Terms.{action_terms, pair_terms, service_terms}
 use Rattle.roman_cost.specs.declared.costs.Listed.{Listed}
@@ -103,13 +103,13 @@ terms_of_pair n costs ranks p = pair_terms (system_of n) (seat_costs n costs.lis
 abbrev pub terms_of_pairs : NamedSys → CostTable → List ℕ → List ℕ → List Term
 terms_of_pairs n costs ranks pairs = flat_map (pair_terms (system_of n) (seat_costs n costs.listed) ranks) pairs
 
--- a row has the least costs of h requests
-abbrev pub IsRowFor : NamedSys → CostTable → ℕ → List ℕ → List ℕ → Type 0
-IsRowFor n costs h ranks row = IsCostRow (system_of n) (seat_costs n costs.listed) h ranks row
+-- the values are the least costs of h requests
+abbrev pub AreLeastCostsFor : NamedSys → CostTable → ℕ → List ℕ → List ℕ → Type 0
+AreLeastCostsFor n costs h ranks later = AreLeastCosts (system_of n) (seat_costs n costs.listed) h ranks later
 
--- a row has the least costs of some number of requests
+-- the values are the least costs of some number of requests
 abbrev pub IsSomeRow : NamedSys → CostTable → List ℕ → List ℕ → Type 0
-IsSomeRow n costs ranks row = (h : ℕ) × IsRowFor n costs h ranks row
+IsSomeRow n costs ranks later = (h : ℕ) × AreLeastCostsFor n costs h ranks later
 
 -- the least costs of h requests at the pairs
 abbrev pub values_for : NamedSys → CostTable → ℕ → List ℕ → List ℕ

@@ -12,14 +12,14 @@ use Rattle.roman_cost.specs.declared.error.CostError.{CostError}
 use Rattle.roman_cost.specs.declared.error.CostError.TheVariants as error
 
 -- the place of a broken rule: the text as a whole, or an item
-abbrev pub place_of_rule : Bool → Place
-place_of_rule true = list.Whole
-place_of_rule false = list.Steps
+abbrev pub list_of_rule : Bool → Place
+list_of_rule true = list.Whole
+list_of_rule false = list.Steps
 
 -- a refusal is the one that the definition gives; nothing is stated after a fault and out of memory
 abbrev pub IsRefusedBy : {Y : Type 0} → CostError → Result Y PartError → Type 0
 IsRefusedBy error.Fault reading = Unit {0}
-IsRefusedBy (error.Refused kind whole index) reading = reading ≡ Err (part_error.Refused kind (place_of_rule whole) index)
+IsRefusedBy (error.Refused kind whole index) reading = reading ≡ Err (part_error.Refused kind (list_of_rule whole) index)
 IsRefusedBy error.Memory reading = Unit {0}
 
 -- the view of the value that the code reads is the value that the definition gives; a refusal is also the one that the

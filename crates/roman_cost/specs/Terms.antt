@@ -1,4 +1,4 @@
--- The terms from which a row of values is computed.
+-- The terms from which the values for one more request are computed.
 use Rattle.std.specs.Prelude.{ℕ, ◌+◌, List, [], ◌∷◌, ◌++◌, map, Option, None, Some, unwrap_or, max, min, nat_le, if◌then◌else◌, slice_index}
 use Rattle.std.specs.List.{flat_map}
 use Rattle.roman_model.specs.Numbers.{sizes_of, pair_at, numbered}
@@ -19,11 +19,11 @@ cheaper_of None cost = cost
 cheaper_of (Some best) cost = if nat_le best cost then best else cost
 
 -- the state after one more term
-abbrev pub stepped : List ℕ → Term → Standing → Standing
-stepped row (term.Outcome rank) s = record { worst = s.worst; cheapest = s.cheapest; dearest = max s.dearest (slice_index row rank) }
-stepped row (term.Service cost) s = record { worst = s.worst; cheapest = Some (cheaper_of s.cheapest (min (cost + s.dearest) 4294967295)); dearest = 0 }
-stepped row term.Action s = record { worst = max s.worst (unwrap_or s.cheapest 0); cheapest = None; dearest = 0 }
-stepped row term.Pair s = nothing_yet
+abbrev pub standing_after : List ℕ → Term → Standing → Standing
+standing_after later (term.Outcome rank) s = record { worst = s.worst; cheapest = s.cheapest; dearest = max s.dearest (slice_index later rank) }
+standing_after later (term.Service cost) s = record { worst = s.worst; cheapest = Some (cheaper_of s.cheapest (min (cost + s.dearest) 4294967295)); dearest = 0 }
+standing_after later term.Action s = record { worst = max s.worst (unwrap_or s.cheapest 0); cheapest = None; dearest = 0 }
+standing_after later term.Pair s = nothing_yet
 
 -- the value of the pair that a term ends, if it ends one
 abbrev pub ended : Term → Standing → List ℕ
@@ -32,10 +32,10 @@ ended (term.Service cost) s = []
 ended term.Action s = []
 ended term.Pair s = s.worst ∷ []
 
--- the values that the terms give by a row
+-- the values that the terms give, by those for one request fewer
 abbrev pub worked_out : List ℕ → List Term → Standing → List ℕ
-worked_out row [] s = []
-worked_out row (t ∷ terms) s = ended t s ++ worked_out row terms (stepped row t s)
+worked_out later [] s = []
+worked_out later (t ∷ terms) s = ended t s ++ worked_out later terms (standing_after later t s)
 
 -- the terms of outcomes, of a delegation, of an action at a pair, and of a pair
 abbrev pub outcome_terms : List ℕ → List ℕ → List Term

@@ -14,7 +14,7 @@ ghost use Rattle.roman_cost.specs.declared.error.AdviceError.TheVariants as erro
 
 use crate::costs::Costs;
 use crate::error::AdviceError;
-use crate::filling::{first_terms, ranked_pairs, row_of, work_out_others};
+use crate::filling::{first_terms, ranked_pairs, values_at, work_out_others};
 use crate::limits::{MAX_REQUESTS, MAX_VALUES};
 use crate::seats::{better, cost_through};
 use crate::terms::work_out;
@@ -24,8 +24,8 @@ use std::alloc::Global;
 use std::marker::Model;
 
 /// The least worst-case costs of each number of requests, up to a greatest number, at each related
-/// pair. Contracts see the greatest number, the pairs, and the rows of values one after another,
-/// starting with the row for no request.
+/// pair. Contracts see the greatest number, the pairs, and the values for each number of requests,
+/// starting with those for no request.
 pub struct Advice {
     requests: u8,
     pairs: Vec<u32>,
@@ -93,11 +93,13 @@ impl Advice {
         let mut next = Vec::with_capacity(alloc, pairs.len())?;
         let mut spare = Vec::new(alloc);
         for done in 0..h {
-            let row = row_of(&values, done as usize, pairs.len());
+            let later = values_at(&values, done as usize, pairs.len());
             let others = &pairs[told..];
             next.clear();
-            work_out(&terms, row, &mut next)?;
-            work_out_others(relation, costs, others, &ranks, row, &mut next, &mut spare)?;
+            work_out(&terms, later, &mut next)?;
+            work_out_others(
+                relation, costs, others, &ranks, later, &mut next, &mut spare,
+            )?;
             values.extend_from_slice(&next)?;
         }
         Ok(Advice {
@@ -131,18 +133,18 @@ impl Advice {
         ensures { (s : Sys) (C : plans.Costs) → Advises s C self.now → result ≡ least_at s C h p }
     {
         let rank = self.ranks[p as usize];
-        self.row(h)[rank as usize]
+        self.least_costs(h)[rank as usize]
     }
 
-    // Returns the row of values for `h` requests: the least worst-case cost at each of the pairs.
-    #[tactic(auto, using(crate::proofs::Rows::table_row))]
-    pub(crate) fn row(&self, h: u8) -> &[u32]
+    // Returns the values for `h` requests: the least worst-case cost at each of the pairs.
+    #[tactic(auto, using(crate::proofs::Values::table_values))]
+    pub(crate) fn least_costs(&self, h: u8) -> &[u32]
         requires { h ≤ self.now.requests }
-        ensures row { (s : Sys) (C : plans.Costs) → Advises s C self.now
+        ensures values { (s : Sys) (C : plans.Costs) → Advises s C self.now
             → result.now ≡ map (least_at s C h) self.now.pairs }
         ensures len { length result.now ≡ length self.now.pairs }
     {
-        row_of(&self.values, h as usize, self.pairs.len())
+        values_at(&self.values, h as usize, self.pairs.len())
     }
 
     /// Returns the cheapest service for the action `a` at the related pair `p`, and its cost. The
@@ -161,12 +163,12 @@ impl Advice {
         relation.joint.known(); // the system is well formed
         costs.known(); // no cost is greater than MAX_COST
         let ranks: &[u32] = &self.ranks;
-        let row = self.row(h - 1);
+        let later = self.least_costs(h - 1);
         let offered = offers(relation, p, a);
         let mut best = None;
         for k in 0..relation.joint.seats() {
             if offered.has(k) {
-                let cost = cost_through(&relation.joint, costs, ranks, row, p, a, k);
+                let cost = cost_through(&relation.joint, costs, ranks, later, p, a, k);
                 best = better(best, k, cost);
             }
         }

@@ -3,14 +3,14 @@ ghost use Rattle.std.specs.Prelude.{◌≡◌, ℕ, suc, ◌+◌, ◌*◌, ◌�
 ghost use Rattle.roman_relation.specs.Greatest.{IsRelation};
 ghost use Rattle.roman_cost.specs.Advised.{HavePlaces};
 ghost use Rattle.roman_cost.specs.Filling.{CanFill};
-ghost use Rattle.roman_cost.specs.NamedWords.{AreRelatedNumbers, related_numbers, terms_of_pairs, Appends, IsRowFor, values_for};
+ghost use Rattle.roman_cost.specs.NamedWords.{AreRelatedNumbers, related_numbers, terms_of_pairs, Appends, AreLeastCostsFor, values_for};
 
 use crate::costs::Costs;
 use crate::terms::{Term, push_pair, work_out};
 use roman_relation::Relation;
 use std::alloc::{AllocError, Global};
 
-/// The approximate limit on the terms that are stored for all rows.
+/// The approximate limit on the terms that are stored for all numbers of requests.
 const MAX_TERMS: usize = 1_048_576;
 
 /// Returns the related pairs, in rising order, and for each pair of the system the number of
@@ -62,32 +62,32 @@ pub(crate) fn first_terms(
     Ok((terms, pairs.len()))
 }
 
-/// Appends the values of the related pairs `others` for one request more than `row` has. Fails only
+/// Appends the values of the related pairs `others` for one request more than `later` has. Fails only
 /// when out of memory.
 pub(crate) fn work_out_others(
     relation: &Relation,
     costs: &Costs,
     others: &[u32],
     ranks: &[u32],
-    row: &[u32],
+    later: &[u32],
     values: &mut Vec<u32>,
     spare: &mut Vec<Term>,
 ) -> Result<(), AllocError>
     requires known { CanFill relation.now costs.now ranks.now }
     requires others { AreRelatedNumbers relation.now.joint others.now }
-    ensures { (h : ℕ) → IsRowFor relation.now.joint costs.now h ranks.now row.now →
+    ensures { (h : ℕ) → AreLeastCostsFor relation.now.joint costs.now h ranks.now later.now →
         Appends values.old.items values.new.items (values_for relation.now.joint costs.now (suc h) others.now) result }
 {
     for p in others {
         spare.clear();
         push_pair(spare, relation, costs, ranks, *p)?;
-        work_out(spare, row, values)?;
+        work_out(spare, later, values)?;
     }
     Ok(())
 }
 
-/// Returns the row at place `i` of a table whose rows have `n` values each.
-pub(crate) fn row_of<T>(table: &[T], i: usize, n: usize) -> &[T]
+/// Returns the `n` values at place `i` of a table that has `n` values at each place.
+pub(crate) fn values_at<T>(table: &[T], i: usize, n: usize) -> &[T]
     requires { i * n + n ≤ length table.now }
     ensures { result.now ≡ slice_range table.now (i * n) (i * n + n) }
 {

@@ -14,9 +14,9 @@ pub(crate) fn greater(a: u32, b: u32) -> u32
 }
 
 /// Returns the greatest value of the outcomes, or 0 if there are none.
-pub(crate) fn greatest_outcome(ranks: &[u32], row: &[u32], outcomes: Outcomes<'_>) -> u32
-    requires { AreOutcomes (IsRanked ranks.now row.now) outcomes }
-    ensures { result ≡ max_over (ranked ranks.now row.now) (outcome_numbers outcomes.entry) }
+pub(crate) fn greatest_outcome(ranks: &[u32], later: &[u32], outcomes: Outcomes<'_>) -> u32
+    requires { AreOutcomes (IsRanked ranks.now later.now) outcomes }
+    ensures { result ≡ max_over (ranked ranks.now later.now) (outcome_numbers outcomes.entry) }
 {
     let Outcomes {
         base,
@@ -28,7 +28,7 @@ pub(crate) fn greatest_outcome(ranks: &[u32], row: &[u32], outcomes: Outcomes<'_
     let mut greatest = 0;
     for env in envs {
         let from = base + u32::from(*env) * env_stride;
-        let value = greatest_state(ranks, row, from, states, stride);
+        let value = greatest_state(ranks, later, from, states, stride);
         greatest = greater(greatest, value);
     }
     greatest
@@ -36,15 +36,15 @@ pub(crate) fn greatest_outcome(ranks: &[u32], row: &[u32], outcomes: Outcomes<'_
 
 /// Returns the greatest value of the outcomes with one environment state, over the states of the
 /// service, or 0 if there are none.
-fn greatest_state(ranks: &[u32], row: &[u32], from: u32, states: &[u8], stride: u32) -> u32
-    requires ranked { All (λ b. IsRanked ranks.now row.now (from + b * stride)) states.now }
+fn greatest_state(ranks: &[u32], later: &[u32], from: u32, states: &[u8], stride: u32) -> u32
+    requires ranked { All (λ b. IsRanked ranks.now later.now (from + b * stride)) states.now }
     requires fits { All (λ b. from + b * stride < 2 ^ 32) states.now }
-    ensures { result ≡ max_over (λ b. ranked ranks.now row.now (from + b * stride)) states.now }
+    ensures { result ≡ max_over (λ b. ranked ranks.now later.now (from + b * stride)) states.now }
 {
     let mut greatest = 0;
     for state in states {
         let pair = from + u32::from(*state) * stride;
-        let value = row[ranks[pair as usize] as usize];
+        let value = later[ranks[pair as usize] as usize];
         greatest = greater(greatest, value);
     }
     greatest

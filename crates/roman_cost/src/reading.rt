@@ -3,7 +3,7 @@ ghost use Rattle.std.specs.Prelude.{◌≡◌, ◌≤◌, [], length, IfOk, IfSo
 ghost use Rattle.serde_json.specs.View.{view, items_view};
 ghost use Rattle.roman_model.specs.declared.limits.TheConstants.{MAX_BEHAVIOURS};
 ghost use Rattle.roman_read.specs.Items.{each_item};
-ghost use Rattle.roman_cost.specs.Costs.{item_for, step_for, costs_for, value_of, costs_of};
+ghost use Rattle.roman_cost.specs.Costs.{item_for, with_cost_for, costs_for, value_of, costs_of};
 ghost use Rattle.roman_cost.specs.Refusals.{ReadsAs, ReadsCosts, HasShelfCause, IsFaultless};
 ghost use Rattle.roman_cost.specs.NamedWords.{IsItemFor};
 ghost use Rattle.roman_cost.specs.Tables.{AreOf};
@@ -78,7 +78,7 @@ fn read_items(alloc: Global, joint: &Joint, items: &[Value]) -> Result<Costs, Co
     requires few { length joint.now.catalogue ≤ MAX_BEHAVIOURS }
     requires items { length items.now ≤ MAX_COSTS }
     ensures costs { ReadsCosts result
-        (each_item (step_for joint.now) 0 [] (items_view items.now)) }
+        (each_item (with_cost_for joint.now) 0 [] (items_view items.now)) }
     ensures of { IfOk result (AreOf joint.now) }
     ensures quiet { IsFaultless result }
 {
@@ -91,13 +91,14 @@ fn read_items(alloc: Global, joint: &Joint, items: &[Value]) -> Result<Costs, Co
     Ok(costs)
 }
 
-#[tactic(auto, unfolding(crate::specs::Costs::cost_step))]
+#[tactic(auto, unfolding(crate::specs::Costs::with_cost))]
 /// Reads the item `v`, and appends it to the costs. Fails when a cost is already listed for its
 /// behaviour and action.
 fn add_item(costs: &mut Costs, joint: &Joint, v: &Value, index: u32) -> Result<(), CostError>
     requires few { length joint.now.catalogue ≤ MAX_BEHAVIOURS }
     requires of { AreOf joint.now costs.old }
-    ensures step { ReadsAs (λ _. costs.new.listed) result (step_for joint.now index costs.old.listed (view v.now)) }
+    ensures costs { ReadsAs (λ _. costs.new.listed) result
+        (with_cost_for joint.now index costs.old.listed (view v.now)) }
     ensures of { IfOk result (λ _. AreOf joint.now costs.new) }
     ensures quiet { IsFaultless result }
 {

@@ -1,5 +1,5 @@
-//! Represents the values of related pairs as terms, so that one pass over the terms computes each
-//! row of values.
+//! Represents the values of related pairs as terms, so that one pass over the terms computes the
+//! values for one more request.
 ghost use Rattle.std.specs.Prelude.{◌≡◌, ◌+◌, ◌*◌, ◌^◌, ◌<◌, All, length, map, slice_index};
 ghost use Rattle.roman_model.specs.Lists.{IsIn};
 ghost use Rattle.roman_joint.specs.NamedSys.{system_of};
@@ -8,7 +8,7 @@ ghost use Rattle.roman_cost.specs.Advised.{HavePlaces};
 ghost use Rattle.roman_cost.specs.Filling.{AreOutcomes, CanFill, IsOffered};
 ghost use Rattle.roman_cost.specs.NamedWords.{related_numbers, AllowsAt, Appends, terms_of_service, terms_of_action, terms_of_pair};
 ghost use Rattle.roman_cost.specs.Tables.{AreOf};
-ghost use Rattle.roman_cost.specs.Terms.{nothing_yet, cheaper_of, stepped, worked_out, outcome_terms};
+ghost use Rattle.roman_cost.specs.Terms.{nothing_yet, cheaper_of, standing_after, worked_out, outcome_terms};
 
 use crate::costs::Costs;
 use crate::outcomes::greater;
@@ -66,16 +66,16 @@ impl Standing {
         }
     }
 
-    /// Returns the state after the term `term`. `row` has the values for one request fewer.
+    /// Returns the state after the term `term`. `later` has the values for one request fewer.
     #[inline(always)]
-    fn after(self, term: Term, row: &[u32]) -> Standing
-        ensures { result ≡ stepped row.now term self }
+    fn after(self, term: Term, later: &[u32]) -> Standing
+        ensures { result ≡ standing_after later.now term self }
     {
         match term {
             Term::Outcome(rank) => Standing {
                 worst: self.worst,
                 cheapest: self.cheapest,
-                dearest: greater(self.dearest, value_in(row, rank)),
+                dearest: greater(self.dearest, value_in(later, rank)),
             },
             Term::Service(cost) => Standing {
                 worst: self.worst,
@@ -92,25 +92,29 @@ impl Standing {
     }
 }
 
-/// Returns the value of the given rank in a row, or 0 past the end of the row.
-fn value_in(row: &[u32], rank: u32) -> u32
-    ensures { result ≡ slice_index row.now rank }
+/// Returns the value of the given rank, or 0 past the end of the values.
+fn value_in(later: &[u32], rank: u32) -> u32
+    ensures { result ≡ slice_index later.now rank }
 {
     let i = rank as usize;
-    if i < row.len() { row[i] } else { 0 }
+    if i < later.len() { later[i] } else { 0 }
 }
 
-/// Computes the values of the pairs that have these terms, and appends them to `values`. `row` has
+/// Computes the values of the pairs that have these terms, and appends them to `values`. `later` has
 /// the values for one request fewer. Fails only when out of memory.
-pub(crate) fn work_out(terms: &[Term], row: &[u32], values: &mut Vec<u32>) -> Result<(), AllocError>
-    ensures { Appends values.old.items values.new.items (worked_out row.now terms.now nothing_yet) result }
+pub(crate) fn work_out(
+    terms: &[Term],
+    later: &[u32],
+    values: &mut Vec<u32>,
+) -> Result<(), AllocError>
+    ensures { Appends values.old.items values.new.items (worked_out later.now terms.now nothing_yet) result }
 {
     let mut standing = Standing::nothing();
     for term in terms {
         if *term == Term::Pair {
             values.push(standing.worst)?;
         }
-        standing = standing.after(*term, row);
+        standing = standing.after(*term, later);
     }
     Ok(())
 }

@@ -110,22 +110,27 @@ fn push_values<O: Sink>(advice: &Advice, page: &mut Page, out: &mut O) -> Result
     ensures cause { FailsWith O.Sink out.old out.new result }
 {
     for h in 0..advice.requests() {
-        push_row(advice, h + 1, page, out)?;
+        push_values_for(advice, h + 1, page, out)?;
     }
     Ok(())
 }
 
 /// Puts on the page the lines of the values for `h` requests.
-fn push_row<O: Sink>(advice: &Advice, h: u8, page: &mut Page, out: &mut O) -> Result<(), Failed>
+fn push_values_for<O: Sink>(
+    advice: &Advice,
+    h: u8,
+    page: &mut Page,
+    out: &mut O,
+) -> Result<(), Failed>
     requires { h ≤ advice.now.requests }
     ensures gathers { (s : Sys) (C : plans.Costs) → Advises s C advice.now
         → Pushes O.Sink out.old out.new page.old page.new (value_lines s C h) result }
     ensures cause { FailsWith O.Sink out.old out.new result }
 {
     let head = head_piece(h);
-    let row = advice.row(h);
+    let values = advice.least_costs(h);
     for (i, p) in advice.pairs().iter().enumerate() {
-        push_value(head.bytes(), *p, row[i], page, out)?;
+        push_value(head.bytes(), *p, values[i], page, out)?;
     }
     Ok(())
 }

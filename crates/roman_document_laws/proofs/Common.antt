@@ -12,8 +12,8 @@ pub use Rattle.roman_guard.specs.Meaning.{is_one_of, states_below}
 pub use Rattle.roman_io.specs.Shelf.{Texts}
 pub use Rattle.roman_laws.proofs.CallerLemmas.{listed_step, listed_triple, step_listed}
 pub use Rattle.roman_laws.specs.Outcomes.{HasStep}
-pub use Rattle.roman_library.specs.Documents.{behaviour_in, behaviour_step, target_step, value_at}
-unfoldable pub use Rattle.roman_library.specs.Documents.{behaviour_place, catalogue_in, combined_of, environment_in, file_of, frozen_of, library_in, library_of, limit_in, limit_of, listed_in, named_target_of, new_behaviour_of, new_name_of, part_of, parts_in, rests_of, service_of, service_step, services_of, state_of, target_in, targets_in, version_of}
+pub use Rattle.roman_library.specs.Documents.{behaviour_in, value_at, with_behaviour, with_target}
+unfoldable pub use Rattle.roman_library.specs.Documents.{behaviour_place, catalogue_in, combined_of, environment_in, file_of, frozen_of, library_in, library_of, limit_in, limit_of, listed_in, named_target_of, new_behaviour_of, new_name_of, part_of, parts_in, rests_of, service_of, services_of, state_of, target_in, targets_in, version_of, with_service_read, with_listed}
 pub use Rattle.roman_library.specs.Library.{AreServices, IsLibrary, IsService, PlainLibrary, behaviour_name, service_name}
 pub use Rattle.roman_library.specs.Refusals.{located, refusal_of}
 pub use Rattle.roman_library.specs.declared.library.Service.{Service}
@@ -32,7 +32,7 @@ pub use Rattle.roman_parts.specs.Choices.{refuse_choice}
 unfoldable pub use Rattle.roman_parts.specs.Choices.{choice_at, choice_between, choice_of, choice_with, single_of}
 unfoldable pub use Rattle.roman_parts.specs.Guards.{among_of, guard_of, guarded_states, state_in}
 pub use Rattle.roman_parts.specs.Lists.{name_in}
-unfoldable pub use Rattle.roman_parts.specs.Lists.{finals_of, name_step, names_of, place_in, start_of}
+unfoldable pub use Rattle.roman_parts.specs.Lists.{finals_of, names_of, place_in, start_of, with_name_read}
 pub use Rattle.roman_parts.specs.Named.{IsOver, NamedBeh, NamedEnv, NamedTarget}
 unfoldable pub use Rattle.roman_parts.specs.Parts.{behaviour_of, environment_of, name_of, target_of}
 pub use Rattle.roman_parts.specs.Reading.{check, found, looked}

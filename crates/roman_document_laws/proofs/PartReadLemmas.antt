@@ -1,7 +1,7 @@
 -- Lists of names, final states and steps: their values, and their refusals.
-use Rattle.roman_document_laws.proofs.Common.{AllZip-long, ◌≡◌, ◌≢◌, ℕ, ◌<◌, ◌≤◌, ◌&&◌, ◌↔◌, inl, inr, Bool, true, false, List, [], ◌∷◌, ◌++◌, length, Option, Some, None, nat_le, codes, Result, Ok, Err, IsTrue, slice_get, refl, sym, ap, ◌∙◌, subst, arith, get_or, is_none, IsFalse, leb-true, true≢false, AllZip, and_parts, and_from, both_ways, le-leb, cases_order, same_Some, slice_get-get_or, get_or_from_slice_get, Data, Items, no_items, item, items_len, items_of, IsIn, HasNoRepeats, MAX_STEPS, by_test, from_push, get_in, any_true, in_push, in_append_left, ◌>>=◌, each_item, pushing, text_of, list_of, member_of, kind_of, AreItems, is_name, place_of, Kind, Miss, same_ok, place_of-absent, guarded_states, names_of, place_in, name_in, finals_of, name_step, counted_items, looked, found, check, items_at, IsPlace, BreaksPlace, IsTripleItem, IsMoveItem, IsNewName, BreaksName, BreaksTriple, BreaksMove, ReadsList, AreNames, ListsAreRead, triples_of, moves_of, three_of, four_of, triple_item, move_item, PartError, bytes_eq, position-Some, bytes_eq-Decides, Refused, none_is, there_some, none_absent}
+use Rattle.roman_document_laws.proofs.Common.{AllZip-long, ◌≡◌, ◌≢◌, ℕ, ◌<◌, ◌≤◌, ◌&&◌, ◌↔◌, inl, inr, Bool, true, false, List, [], ◌∷◌, ◌++◌, length, Option, Some, None, nat_le, codes, Result, Ok, Err, IsTrue, slice_get, refl, sym, ap, ◌∙◌, subst, arith, get_or, is_none, IsFalse, leb-true, true≢false, AllZip, and_parts, and_from, both_ways, le-leb, cases_order, same_Some, slice_get-get_or, get_or_from_slice_get, Data, Items, no_items, item, items_len, items_of, IsIn, HasNoRepeats, MAX_STEPS, by_test, from_push, get_in, any_true, in_push, in_append_left, ◌>>=◌, each_item, pushing, text_of, list_of, member_of, kind_of, AreItems, is_name, place_of, Kind, Miss, same_ok, place_of-absent, guarded_states, names_of, place_in, name_in, finals_of, with_name_read, counted_items, looked, found, check, items_at, IsPlace, BreaksPlace, IsTripleItem, IsMoveItem, IsNewName, BreaksName, BreaksTriple, BreaksMove, ReadsList, AreNames, ListsAreRead, triples_of, moves_of, three_of, four_of, triple_item, move_item, PartError, bytes_eq, position-Some, bytes_eq-Decides, Refused, none_is, there_some, none_absent}
 use Rattle.roman_read.specs.declared.rules.Kind.TheVariants as kind
-use Rattle.roman_document_laws.proofs.ListLemmas.{same_err, IsExact, exact_as, exact_then, exact_and, exact_map, exact_same, listed, items_listed, items_count, IsStep, appends, IsListing, list_exact}
+use Rattle.roman_document_laws.proofs.ListLemmas.{same_err, IsExact, exact_as, exact_then, exact_and, exact_map, exact_same, listed, items_listed, items_count, AddsExactly, appends, IsListing, list_exact}
 use Rattle.roman_parts.specs.declared.error.List.{List as Place}
 use Rattle.roman_parts.specs.declared.error.List.TheVariants as list
 
@@ -69,8 +69,8 @@ counted_exact list name least most Fits fits d =
 
 -- Names
 
-name_exact : (list : Place) (i : ℕ) (before : List (List ℕ)) (d : Data) → IsExact (name_step list i before d) (λ out. (name : List ℕ) × (before ++ name ∷ [] ≡ out) × IsNewName before d name) (BreaksName list i before d)
-unfolding name_step
+name_exact : (list : Place) (i : ℕ) (before : List (List ℕ)) (d : Data) → IsExact (with_name_read list i before d) (λ out. (name : List ℕ) × (before ++ name ∷ [] ≡ out) × IsNewName before d name) (BreaksName list i before d)
+unfolding with_name_read
 name_exact list i before d =
     exact_as _ _ _ _ _ (exact_then (name_in list i d) _ _ _ _ _ (exact_then (looked list i (text_of d)) _ _ _ _ _ (exact_looked list i (text_of d)) (λ text reads. exact_check (is_name text) kind.BadName list i text))
     (λ name is. exact_check (is_none (place_of before name)) kind.Repeated list i (before ++ name ∷ [])))
@@ -81,8 +81,8 @@ name_exact list i before d =
     some_there names text None e fails = absurd (true≢false fails)
     some_there names text (Some k) e fails = get_in names k text (in_place names text k e).0
 
-name_steps : (list : Place) → IsStep (name_step list) IsNewName (BreaksName list)
-name_steps list = λ i before d at. name_exact list i before d
+names_added : (list : Place) → AddsExactly (with_name_read list) IsNewName (BreaksName list)
+names_added list = λ i before d at. name_exact list i before d
 
 -- names after some others: each is a name, and none occurs twice or among the others
 record AreNamesAfter (before : List (List ℕ)) (ds : List Data) (names : List (List ℕ)) : Type 0 where
@@ -105,17 +105,17 @@ are_names before (d ∷ ds) (n ∷ ns) are = grind (arith, from_push, (are_names
 some_few : ℕ → ℕ → Type 0
 some_few most n = (0 < n) × (n ≤ most)
 
--- the items of a member, and then a step for each item
-list_reads : {X : Type 0} (step : ℕ → List X → Data → Result (List X) PartError) (Is : List X → Data → X → Type 0) (Breaks : ℕ → List X → Data → PartError → Type 0) → IsStep step Is Breaks →
-    (list : Place) (name : List ℕ) (Fits : ℕ → Type 0) (r : Data → Result Items PartError) → ((d : Data) → IsListing name (λ rule. Refused rule list 0) Fits d (r d)) → ReadsList list name Fits Is Breaks (λ d. r d >>= each_item step 0 [])
-list_reads step Is Breaks ok list name Fits r listing = record {
-  gives = λ d. (list_exact step Is Breaks ok name (λ rule. Refused rule list 0) Fits d (r d) (listing d)).gives;
-  refuses = λ d. (list_exact step Is Breaks ok name (λ rule. Refused rule list 0) Fits d (r d) (listing d)).refuses;
+-- the items of a member, which are then added one by one
+list_reads : {X : Type 0} (add : ℕ → List X → Data → Result (List X) PartError) (Is : List X → Data → X → Type 0) (Breaks : ℕ → List X → Data → PartError → Type 0) → AddsExactly add Is Breaks →
+    (list : Place) (name : List ℕ) (Fits : ℕ → Type 0) (r : Data → Result Items PartError) → ((d : Data) → IsListing name (λ rule. Refused rule list 0) Fits d (r d)) → ReadsList list name Fits Is Breaks (λ d. r d >>= each_item add 0 [])
+list_reads add Is Breaks ok list name Fits r listing = record {
+  gives = λ d. (list_exact add Is Breaks ok name (λ rule. Refused rule list 0) Fits d (r d) (listing d)).gives;
+  refuses = λ d. (list_exact add Is Breaks ok name (λ rule. Refused rule list 0) Fits d (r d) (listing d)).refuses;
 }
 
 names_read : (list : Place) (name : List ℕ) (most : ℕ) → ReadsList list name (λ n. (0 < n) × (n ≤ most)) IsNewName (BreaksName list) (names_of list name most)
 unfolding names_of some_few
-names_read list name most = list_reads (name_step list) IsNewName (BreaksName list) (name_steps list) list name (some_few most) (counted_items list name 1 most) (counted_exact list name 1 most (some_few most) (λ n. (grind arith, grind arith)))
+names_read list name most = list_reads (with_name_read list) IsNewName (BreaksName list) (names_added list) list name (some_few most) (counted_items list name 1 most) (counted_exact list name 1 most (some_few most) (λ n. (grind arith, grind arith)))
 
 names_exact : (list : Place) (name : List ℕ) (most : ℕ) (d : Data) (names : List (List ℕ)) → (names_of list name most d ≡ Ok names → AreNames name most d names) × (AreNames name most d names → names_of list name most d ≡ Ok names)
 names_exact list name most d names = (
@@ -173,7 +173,7 @@ triple_exact states actions i d =
     exact_and (place_in states list.Steps i parts.0) _ _ _ _ _ (place_exact states list.Steps i parts.0) (λ from from_is.
     exact_and (place_in actions list.Steps i parts.1) _ _ _ _ _ (place_exact actions list.Steps i parts.1) (λ action action_is.
     exact_map (place_in states list.Steps i parts.2) (λ to. record { from = from; action = action; to = to }) _ _ (place_exact states list.Steps i parts.2))))))
-    (λ x. (grind (arith, three_is), λ is. (items_of (is.from ∷ is.action ∷ is.to ∷ []), is.row, ((is.from, is.action, is.to), refl, (x.from, is.from_is, (x.action, is.action_is, (x.to, is.to_is, refl)))))))
+    (λ x. (grind (arith, three_is), λ is. (items_of (is.from ∷ is.action ∷ is.to ∷ []), is.items, ((is.from, is.action, is.to), refl, (x.from, is.from_is, (x.action, is.action_is, (x.to, is.to_is, refl)))))))
     (λ e. (
       λ bad. elim bad [
         | inl missed ↦ inl (inl missed)
@@ -209,7 +209,7 @@ move_exact env_states actions states i d =
     exact_map (place_in states list.Steps i parts.3) (λ to. record { from = from; guard = guard; action = action; to = to }) _ _ (place_exact states list.Steps i parts.3)))))))
     (λ x. (
       grind (arith, four_is),
-      λ is. (items_of (is.from ∷ is.guard ∷ is.action ∷ is.to ∷ []), is.row, ((is.from, is.guard, is.action, is.to), refl, (x.from, is.from_is, (x.guard, is.guard_is, (x.action, is.action_is, (x.to, is.to_is, refl)))))),
+      λ is. (items_of (is.from ∷ is.guard ∷ is.action ∷ is.to ∷ []), is.items, ((is.from, is.guard, is.action, is.to), refl, (x.from, is.from_is, (x.guard, is.guard_is, (x.action, is.action_is, (x.to, is.to_is, refl)))))),
     ))
     (λ e. (
       λ bad. elim bad [

@@ -1,10 +1,9 @@
 -- Documents with several targets: parts that were read can be stated, and the written value means the library that combines the targets.
-use Rattle.roman_document_laws.proofs.Common.{AcceptedSeveralCanBeSaid, AreItems, AreSayable, Data, Err, HasNoRepeats, IsIn, IsSayableEnv, IsSayableTarget, IsTrue, List, MAX_BEHAVIOURS, Named, NamedBeh, NamedEnv, None, Ok, PlainCombined, PlainLibrary, PlainTargets, Refusal, Service, SeveralAreSaid, Texts, [], ap, arith, as_object, bind_ok, check, check_is, codes, combined_behaviour, combined_of, combined_parts, counted_items, each_item, file_of, forbidding, from_map, from_push, in_append_left, in_map, in_push, inl, inr, is_name, is_none, is_some, items_of, length, length-map, libraries_known, library_in, list_value, listed_in, map, map_push, member_of, name_of, named_target_of, named_target_value, new_name_of, none_absent, none_is, part_of, parts_in, place_of, located, located_is, refl, requests_in, same_ok, several_value, subst, sym, target_name, target_of, target_step, targets_combined, targets_in, version_of, ℕ, ◌++◌, ◌↔◌, ◌∷◌, ◌≡◌, ◌≤◌}
-use Rattle.roman_library.specs.Documents.{listed_step}
+use Rattle.roman_document_laws.proofs.Common.{AcceptedSeveralCanBeSaid, AreItems, AreSayable, Data, Err, HasNoRepeats, IsIn, IsSayableEnv, IsSayableTarget, IsTrue, List, MAX_BEHAVIOURS, Named, NamedBeh, NamedEnv, None, Ok, PlainCombined, PlainLibrary, PlainTargets, Refusal, Service, SeveralAreSaid, Texts, [], ap, arith, as_object, bind_ok, check, check_is, codes, combined_behaviour, combined_of, combined_parts, counted_items, each_item, file_of, forbidding, from_map, from_push, in_append_left, in_map, in_push, inl, inr, is_name, is_none, is_some, items_of, length, length-map, libraries_known, library_in, list_value, listed_in, map, map_push, member_of, name_of, named_target_of, named_target_value, new_name_of, none_absent, none_is, part_of, parts_in, place_of, located, located_is, refl, requests_in, same_ok, several_value, subst, sym, target_name, target_of, with_target, targets_combined, targets_in, version_of, ℕ, ◌++◌, ◌↔◌, ◌∷◌, ◌≡◌, ◌≤◌, with_listed}
 use Rattle.roman_read.specs.declared.rules.Kind.TheVariants as kind
 use Rattle.roman_parts.specs.declared.error.List.TheVariants as list
 use Rattle.roman_library.specs.declared.refusal.Part.TheVariants as part
-use Rattle.roman_document_laws.proofs.ListLemmas.{IsExact, IsStep, all_exact, appends, exact_same, items_listed, listed, listed_items}
+use Rattle.roman_document_laws.proofs.ListLemmas.{AddsExactly, IsExact, all_exact, appends, exact_same, items_listed, listed, listed_items}
 use Rattle.roman_document_laws.proofs.PartReadLemmas.{absent_none, counted_exact}
 use Rattle.roman_document_laws.proofs.PartWriterLemmas.{name_said, target_said_by}
 use Rattle.roman_document_laws.proofs.DocumentWriterLemmas.{catalogue_said, environment_said, limit_said, services_said}
@@ -19,12 +18,12 @@ module _ (texts : Texts) (document : List ℕ) (env : NamedEnv) where
   BreaksTarget : ℕ → List Named → Data → Refusal → Type 0
   BreaksTarget i before d e = listed_in part.Target named_target_of texts document env before i d ≡ Err e
 
-  targets_step : IsStep (target_step texts document env) IsTargetItem BreaksTarget
-  unfolding listed_step IsTargetItem BreaksTarget
-  targets_step = appends _ _ _ (grind (arith, IsExact, exact_same))
+  targets_added : AddsExactly (with_target texts document env) IsTargetItem BreaksTarget
+  unfolding with_listed IsTargetItem BreaksTarget
+  targets_added = appends _ _ _ (grind (arith, IsExact, exact_same))
 
-  pub targets_each : (ds : List Data) (xs : List Named) → (each_item (target_step texts document env) 0 [] (items_of ds) ≡ Ok xs) ↔ AreItems IsTargetItem [] ds xs
-  targets_each ds xs = (all_exact (target_step texts document env) IsTargetItem BreaksTarget targets_step ds).gives xs
+  pub targets_each : (ds : List Data) (xs : List Named) → (each_item (with_target texts document env) 0 [] (items_of ds) ≡ Ok xs) ↔ AreItems IsTargetItem [] ds xs
+  targets_each ds xs = (all_exact (with_target texts document env) IsTargetItem BreaksTarget targets_added ds).gives xs
 
   -- Targets that are written
 

@@ -53,8 +53,8 @@ BreaksPlace names list i d e = IsNoText list i d e ⊎ ((text : List ℕ) × (te
 -- ---- steps
 
 -- item i isn't a list with n items
-abbrev pub IsNoRow : ℕ → ℕ → Data → PartError → Type 0
-IsNoRow n i d e =
+abbrev pub IsNoListOf : ℕ → ℕ → Data → PartError → Type 0
+IsNoListOf n i d e =
     ((miss : Miss) × (list_of d ≡ Err miss) × (e ≡ Refused (kind_of miss) Steps i))
     ⊎ ((ds : List Data) × (list_of d ≡ Ok (items_of ds)) × (length ds ≢ n) × (e ≡ Refused Form Steps i))
 
@@ -63,7 +63,7 @@ pub record IsTripleItem (states actions : List (List ℕ)) (d : Data) (x : Tripl
   pub from : Data
   pub action : Data
   pub to : Data
-  pub row : list_of d ≡ Ok (items_of (from ∷ action ∷ to ∷ []))
+  pub items : list_of d ≡ Ok (items_of (from ∷ action ∷ to ∷ []))
   pub from_is : IsPlace states from x.from
   pub action_is : IsPlace actions action x.action
   pub to_is : IsPlace states to x.to
@@ -75,7 +75,7 @@ HasPlace names d = (k : ℕ) × IsPlace names d k
 -- the first rule that a step of an environment breaks: it isn't a list of three items, or the first faulty item from the left isn't a text or isn't one of the names
 abbrev pub BreaksTriple : List (List ℕ) → List (List ℕ) → ℕ → List Triple → Data → PartError → Type 0
 BreaksTriple states actions i before d e =
-    IsNoRow 3 i d e
+    IsNoListOf 3 i d e
     ⊎ ((from : Data) × (action : Data) × (to : Data) × (list_of d ≡ Ok (items_of (from ∷ action ∷ to ∷ [])))
     × (BreaksPlace states Steps i from e
     ⊎ (HasPlace states from
@@ -88,7 +88,7 @@ pub record IsMoveItem (env_states actions states : List (List ℕ)) (i : ℕ) (d
   pub guard : Data
   pub action : Data
   pub to : Data
-  pub row : list_of d ≡ Ok (items_of (from ∷ guard ∷ action ∷ to ∷ []))
+  pub items : list_of d ≡ Ok (items_of (from ∷ guard ∷ action ∷ to ∷ []))
   pub from_is : IsPlace states from x.from
   pub guard_is : guarded_states env_states i guard ≡ Ok x.guard
   pub action_is : IsPlace actions action x.action
@@ -97,7 +97,7 @@ pub record IsMoveItem (env_states actions states : List (List ℕ)) (i : ℕ) (d
 -- the first rule that a step of a behaviour breaks: it isn't a list of four items, or the first faulty item from the left is refused
 abbrev pub BreaksMove : List (List ℕ) → List (List ℕ) → List (List ℕ) → ℕ → List Move → Data → PartError → Type 0
 BreaksMove env_states actions states i before d e =
-    IsNoRow 4 i d e
+    IsNoListOf 4 i d e
     ⊎ ((from : Data) × (guard : Data) × (action : Data) × (to : Data) × (list_of d ≡ Ok (items_of (from ∷ guard ∷ action ∷ to ∷ [])))
     × (BreaksPlace states Steps i from e
     ⊎ (HasPlace states from

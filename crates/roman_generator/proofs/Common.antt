@@ -1,5 +1,5 @@
 -- Re-exports the names that the proof pages of this crate use from other crates. Declares nothing.
-pub use Rattle.std.proofs.Common.{IfNone, IfSome, IsFalse, IsTrue, List, MatchOption, None, Option, Some, [], ap, arith, inl, length, refl, slice_get, slice_index, subst, sym, true, ℕ, ◌<◌, ◌∙◌, ◌∷◌, ◌≡◌, ◌≢◌}
+pub use Rattle.std.proofs.Common.{IfNone, IfSome, IsFalse, IsTrue, List, MatchOption, None, Option, Some, [], ap, arith, inl, length, refl, rules, slice_get, slice_index, subst, sym, true, ℕ, ◌<◌, ◌∙◌, ◌∷◌, ◌≡◌, ◌≢◌}
 pub use Rattle.std.proofs.lemmas.Bool.{both_ways, not-true}
 pub use Rattle.std.proofs.lemmas.List.{get_or-set_same, length-map}
 pub use Rattle.std.proofs.lemmas.Nat.Bits.{bit_at-zero}

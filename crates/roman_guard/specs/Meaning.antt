@@ -23,17 +23,17 @@ abbrev pub union : List (ℕ → Bool) → ℕ → Bool
 union sets e = list_any (λ set. set e) sets
 
 -- one level of a guard, in which each inner guard is replaced by the set of its states
-abbrev pub holds_step : Guard-F (ℕ → Bool) → ℕ → Bool
-holds_step Guard-F.All = λ _. true
-holds_step Guard-F.Never = λ _. false
-holds_step (Guard-F.Among states) = is_one_of states.items
-holds_step (Guard-F.Not set) = complement set.value
-holds_step (Guard-F.Both sets) = intersection sets.items
-holds_step (Guard-F.Either sets) = union sets.items
+abbrev pub holds_over : Guard-F (ℕ → Bool) → ℕ → Bool
+holds_over Guard-F.All = λ _. true
+holds_over Guard-F.Never = λ _. false
+holds_over (Guard-F.Among states) = is_one_of states.items
+holds_over (Guard-F.Not set) = complement set.value
+holds_over (Guard-F.Both sets) = intersection sets.items
+holds_over (Guard-F.Either sets) = union sets.items
 
 -- the guard holds in state e
 abbrev pub holds : Guard → ℕ → Bool
-holds = fold-Guard (ℕ → Bool) holds_step
+holds = fold-Guard (ℕ → Bool) holds_over
 
 -- the numbers below n that pass the test, rising
 unfoldable pub states_below : (ℕ → Bool) → ℕ → List ℕ

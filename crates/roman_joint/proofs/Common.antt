@@ -46,7 +46,7 @@ pub use Rattle.roman_joint.specs.Bands.{AllAlive, AreRowsBefore, ClearsAllServed
 pub use Rattle.roman_joint.specs.Behaviours.{HaveBehaviours, IsSeatBehaviour, IsServiceAt, seat_sizes}
 pub use Rattle.roman_joint.specs.Changes.{with_frozen}
 pub use Rattle.roman_joint.specs.Layout.{IsJoint, IsJointOf, named_sys_in}
-pub use Rattle.roman_joint.specs.Marks.{AnyOf, Grows, IsBeforeAction, IsBeforeEnv, IsBeforeSeat, IsBeforeTarget, IsMarked, IsMoved, Marks, action_steps, env_steps, row_at, seat_steps, target_steps}
+pub use Rattle.roman_joint.specs.Marks.{AnyOf, Grows, IsBeforeAction, IsBeforeEnv, IsBeforeSeat, IsBeforeTarget, IsMarked, IsMoved, Marks, action_work, env_work, row_at, seat_work, target_work}
 pub use Rattle.roman_joint.specs.Moves.{AreLaneMoves, AreMovesOf, AreSeatsIn, AreShifts, FillsColumns, HoldsMoves, HoldsSpans, IsAdded, IsKept, IsSpan, LosesMoving, StaysWithin, SuitsEnv, lane_move, lane_moves_from, leads_away, span_place, system_in, shifts_room, within_in}
 pub use Rattle.roman_joint.specs.NamedSys.{IsNamedSys, IsOverEnv, NamedSys, beh_at, cells, named_parts, seat_of, still, system_of}
 pub use Rattle.roman_joint.specs.Names.{beh_states, names_in, names_of_seat}

@@ -1,5 +1,5 @@
 -- Marks on the bands from which a band can be reached.
-use Rattle.roman_joint.proofs.Common.{AnyOf, Grows, IsBeforeAction, IsBeforeEnv, IsBeforeSeat, IsMarked, Marks, action_steps, env_steps, row_at, seat_steps, target_steps, AreLeading, Arena, Delegation, back, delegations, is_among, Bool, IsTrue, List, [], add-one, ap, ap₂, arith, cond, count_by, drop, false, get_or, inl, inr, length, refl, slice_get, slice_index, subst, suc, sum_by, sym, take, true, zero, ℕ, ◌%◌, ◌*◌, ◌++◌, ◌+◌, ◌-◌, ◌/◌, ◌<◌, ◌^◌, ◌∙◌, ◌∷◌, ◌≡◌, ◌≤◌, ◌⊎◌, HasNoRepeats, HoldsEachOnce, IsIn, below, product_of, HasNoRepeats-below, HasNoRepeats-filter, HasNoRepeats-map, by_test, filter_in, from_below, from_flat_map, from_map, from_push, in_beh_prev, in_below, in_env_prev, in_filter, move_in_range, no_longer, numbers_are_pairs, get_in, sum_by_same, triple_in_range, IsBeh, IsSys, Pair, Seat, Sys, IsRow, lane_state_of, lanes_in, IsSizes, moved, stride_of, IsSizes-rows, env_rows_are, lanes_positive, length_rows, low_of-le, row_mod, row_stride_of, Row, Sizes, count, number, numbered, pair_at, sizes_of, band_in, mid_in, beh_prev, env_prev, outcomes, bit_at, bit_or, cases_eq, cases_lt, le-ltb, lt-ltb, div-add-mod', div-mul-add, div_below, mod_below, mul-add-lt, same_from_place, div-div-eq-div-mul, env_rows_of, lanes_of, low_of, row_sizes, filter, flat_map, from_action, from_all, from_env, from_seat, from_states, from_target, seat_prev, get_or-set_other, get_or-set_same, length-map, length-set, take_more, has_flag, is_on, length-filter, sum_by-append, sum_by-cons, set, slice_get_within, still, sum_cut, size_at}
+use Rattle.roman_joint.proofs.Common.{AnyOf, Grows, IsBeforeAction, IsBeforeEnv, IsBeforeSeat, IsMarked, Marks, action_work, env_work, row_at, seat_work, target_work, AreLeading, Arena, Delegation, back, delegations, is_among, Bool, IsTrue, List, [], add-one, ap, ap₂, arith, cond, count_by, drop, false, get_or, inl, inr, length, refl, slice_get, slice_index, subst, suc, sum_by, sym, take, true, zero, ℕ, ◌%◌, ◌*◌, ◌++◌, ◌+◌, ◌-◌, ◌/◌, ◌<◌, ◌^◌, ◌∙◌, ◌∷◌, ◌≡◌, ◌≤◌, ◌⊎◌, HasNoRepeats, HoldsEachOnce, IsIn, below, product_of, HasNoRepeats-below, HasNoRepeats-filter, HasNoRepeats-map, by_test, filter_in, from_below, from_flat_map, from_map, from_push, in_beh_prev, in_below, in_env_prev, in_filter, move_in_range, no_longer, numbers_are_pairs, get_in, sum_by_same, triple_in_range, IsBeh, IsSys, Pair, Seat, Sys, IsRow, lane_state_of, lanes_in, IsSizes, moved, stride_of, IsSizes-rows, env_rows_are, lanes_positive, length_rows, low_of-le, row_mod, row_stride_of, Row, Sizes, count, number, numbered, pair_at, sizes_of, band_in, mid_in, beh_prev, env_prev, outcomes, bit_at, bit_or, cases_eq, cases_lt, le-ltb, lt-ltb, div-add-mod', div-mul-add, div_below, mod_below, mul-add-lt, same_from_place, div-div-eq-div-mul, env_rows_of, lanes_of, low_of, row_sizes, filter, flat_map, from_action, from_all, from_env, from_seat, from_states, from_target, seat_prev, get_or-set_other, get_or-set_same, length-map, length-set, take_more, has_flag, is_on, length-filter, sum_by-append, sum_by-cons, set, slice_get_within, still, sum_cut, size_at}
 use Rattle.std.specs.Prelude.{ltb}
 use Rattle.roman_joint.proofs.BackwardLemmas.{once_by, delegation, Comes, origin, in_seat_prev, pair_comes, found_backwards}
 use Rattle.roman_joint.proofs.WordLemmas.{on_set_same, on_set_other}
@@ -191,13 +191,13 @@ count_states s q a e t k (b ∷ bs) =
 
 -- if an action doesn't lead to a band, nothing is marked
 pub none_leads : (s : Sys) (row : Row) (a n : ℕ) (marks : List ℕ) → AreLeading s.env s.target row.target row.env row.leading → a < s.env.actions → bit_at row.leading a ≡ 0 →
-    Marks (IsBeforeAction s row a) (action_steps s row a) marks marks n n
+    Marks (IsBeforeAction s row a) (action_work s row a) marks marks n n
 none_leads s row a n marks leading l off = record {
   grows = record { long = refl; still = λ y t. t };
   marked = λ y any. absurd (subst (λ ts. IsIn any.holds.one ts) (leading.others a l off any.one any.among) any.holds.among);
   steps =
-      let none : action_steps s row a ≡ sum_by (λ e. 0) (env_prev s.env row.env a) =
-      sum_by_same (env_steps s row a) (λ e. 0) (env_prev s.env row.env a) (λ e i. ap (sum_by (λ t. target_steps s row a e)) (leading.others a l off e i)) in
+      let none : action_work s row a ≡ sum_by (λ e. 0) (env_prev s.env row.env a) =
+      sum_by_same (env_work s row a) (λ e. 0) (env_prev s.env row.env a) (λ e i. ap (sum_by (λ t. target_work s row a e)) (leading.others a l off e i)) in
       omega (arith, none, nothing (env_prev s.env row.env a));
 }
   where
@@ -207,14 +207,14 @@ none_leads s row a n marks leading l off = record {
 
 -- each pair of the band takes the same number of steps
 pub count_front : (s : Sys) (row : Row) (y i lane : ℕ) → IsSys s → IsSizes (sizes_of s) → IsRow s (y * band_in s) row → i < band_in s → lane < lanes_in s →
-    count_by (λ d. ltb d.seat (mid_in s)) (back (numbered s) ((y * band_in s + i) * lanes_in s + lane)) ≡ sum_by (action_steps s row) (below s.env.actions)
+    count_by (λ d. ltb d.seat (mid_in s)) (back (numbered s) ((y * band_in s + i) * lanes_in s + lane)) ≡ sum_by (action_work s row) (below s.env.actions)
 count_front s row y i lane sys sizes first in_rows in_lanes =
     count_same _ (from_all s q) (back (numbered s) p) (found_backwards s p sys (here.looked.below lane in_lanes)) (back_once (numbered s) p (HasNoRepeats-below (count (sizes_of s))))
-    ∙ sum_each f (from_action s q) (action_steps s row) (below s.env.actions)
-    (λ a. sum_each f (from_env s q a) (env_steps s row a) (env_prev s.env q.e a)
-    (λ e. sum_each f (from_target s q a e) (λ t. target_steps s row a e) (beh_prev s.target q.t e a) (λ t. target a e t)
-    ∙ ap (λ t. sum_by (λ u. target_steps s row a e) (beh_prev s.target t e a)) (here.looked.targets lane in_lanes))
-    ∙ ap (λ e. sum_by (env_steps s row a) (env_prev s.env e a)) (here.looked.envs lane in_lanes))
+    ∙ sum_each f (from_action s q) (action_work s row) (below s.env.actions)
+    (λ a. sum_each f (from_env s q a) (env_work s row a) (env_prev s.env q.e a)
+    (λ e. sum_each f (from_target s q a e) (λ t. target_work s row a e) (beh_prev s.target q.t e a) (λ t. target a e t)
+    ∙ ap (λ t. sum_by (λ u. target_work s row a e) (beh_prev s.target t e a)) (here.looked.targets lane in_lanes))
+    ∙ ap (λ e. sum_by (env_work s row a) (env_prev s.env e a)) (here.looked.envs lane in_lanes))
   where
     here : InBand s y i row
     here = in_band s y i row sizes first in_rows
@@ -237,11 +237,11 @@ count_front s row y i lane sys sizes first in_rows in_lanes =
     few : mid_in s ≤ length s.seats
     few = omega (arith, low_of-le (row_sizes (sizes_of s)).seats, length_rows (sizes_of s), low_of-le (sizes_of s).seats, length-map s.seats (λ (z : Seat). z.beh.states))
 
-    target : (a e t : ℕ) → sum_by f (from_target s q a e t) ≡ target_steps s row a e
+    target : (a e t : ℕ) → sum_by f (from_target s q a e t) ≡ target_work s row a e
     target a e t =
         sum_each f (from_seat s q a e t) (states a e) (below (length s.seats)) (λ k. count_states s q a e t k (prevs a e k))
         ∙ (sym (sum_cut (states a e) (mid_in s) (length s.seats) few (λ k l m. ap (λ z. cond z (sum_by (λ b. 1) (prevs a e k)) 0) (le-ltb k (mid_in s) l)))
-        ∙ sum_by_same (states a e) (seat_steps s row a e) (below (mid_in s)) (λ k j.
+        ∙ sum_by_same (states a e) (seat_work s row a e) (below (mid_in s)) (λ k j.
         let front : k < mid_in s = from_below (mid_in s) k j in
         ap (λ z. cond z (sum_by (λ b. 1) (prevs a e k)) 0) (lt-ltb k (mid_in s) front)
         ∙ ap (λ b. sum_by (λ z. 1) (seat_prev (slice_get s.seats k) b e a)) (here.looked.states k lane (mid_low s k front) in_lanes ∙ here.before k front)))

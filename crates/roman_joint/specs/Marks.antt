@@ -69,18 +69,18 @@ IsBeforeEnv s row a e = AnyOf (IsBeforeTarget s row a e) (beh_prev s.target row.
 abbrev pub IsBeforeAction : Sys → Row → ℕ → ℕ → Type 0
 IsBeforeAction s row a = AnyOf (IsBeforeEnv s row a) (env_prev s.env row.env a)
 
--- the steps for seat k: one for each state from which it goes by action a, in environment state e, to its state in the row
-abbrev pub seat_steps : Sys → Row → ℕ → ℕ → ℕ → ℕ
-seat_steps s row a e k = sum_by (λ b. 1) (seat_prev (slice_get s.seats k) (slice_index row.states k) e a)
+-- the work for seat k: 1 for each state from which it goes by action a, in environment state e, to its state in the row
+abbrev pub seat_work : Sys → Row → ℕ → ℕ → ℕ → ℕ
+seat_work s row a e k = sum_by (λ b. 1) (seat_prev (slice_get s.seats k) (slice_index row.states k) e a)
 
--- the steps for the seats before the band's own, by action a in environment state e
-abbrev pub target_steps : Sys → Row → ℕ → ℕ → ℕ
-target_steps s row a e = sum_by (seat_steps s row a e) (below (mid_in s))
+-- the work for the seats before the band's own, by action a in environment state e
+abbrev pub target_work : Sys → Row → ℕ → ℕ → ℕ
+target_work s row a e = sum_by (seat_work s row a e) (below (mid_in s))
 
--- the steps for all states of the target from which it goes by action a, in environment state e, to its state in the row
-abbrev pub env_steps : Sys → Row → ℕ → ℕ → ℕ
-env_steps s row a e = sum_by (λ t. target_steps s row a e) (beh_prev s.target row.target e a)
+-- the work for all states of the target from which it goes by action a, in environment state e, to its state in the row
+abbrev pub env_work : Sys → Row → ℕ → ℕ → ℕ
+env_work s row a e = sum_by (λ t. target_work s row a e) (beh_prev s.target row.target e a)
 
--- the steps for all states of the environment from which it goes by action a to its state in the row
-abbrev pub action_steps : Sys → Row → ℕ → ℕ
-action_steps s row a = sum_by (env_steps s row a) (env_prev s.env row.env a)
+-- the work for all states of the environment from which it goes by action a to its state in the row
+abbrev pub action_work : Sys → Row → ℕ → ℕ
+action_work s row a = sum_by (env_work s row a) (env_prev s.env row.env a)

@@ -35,7 +35,7 @@ leads_away moves alive lane = list_any (λ move. is_on move.lanes lane && not (i
 pub record AreLaneMoves (n : Sizes) (k : ℕ) (next : ℕ → List ℕ) (some : ℕ) (moves : List Move) : Type 0 where
   pub each : (lane : ℕ) → lane < lanes_of n.seats → is_on some lane ≡ not (is_empty (next (lane_state_of n k lane)))
   pub rest : (lane : ℕ) → lanes_of n.seats ≤ lane → is_on some lane ≡ false
-  pub small : AreSmall moves
+  pub small : (move : Move) → IsIn move moves → (move.from < 64) × (move.to < 64)
   pub within : (move : Move) (lane : ℕ) → IsIn move moves → lane < lanes_of n.seats → is_on move.lanes lane ≡ true → (move.from ≤ lane) × (lane + move.to - move.from < lanes_of n.seats)
   pub leads : (test : ℕ → Bool) (lane : ℕ) → lane < lanes_of n.seats → list_any (λ move. is_on move.lanes lane && test (lane + move.to - move.from)) moves
       ≡ list_any (λ b. test (lane + b * stride_of n k - lane_state_of n k lane * stride_of n k)) (next (lane_state_of n k lane))

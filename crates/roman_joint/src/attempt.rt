@@ -58,7 +58,7 @@ pub(crate) fn target_move_of<'a>(joint: &'a Joint, row: &Row, a: u8) -> Option<T
 /// no next state. The seat is before the lanes.
 #[inline(always)]
 #[tactic(auto, using(crate::proofs::GoodLemmas::seats_few))]
-pub(crate) fn rows_before<'a>(
+pub(crate) fn row_outcomes<'a>(
     joint: &'a Joint,
     attempt: &Attempt<'a>,
     k: u8,

@@ -8,7 +8,7 @@ ghost use Rattle.roman_joint.specs.NamedSys.{system_of};
 ghost use Rattle.roman_joint.specs.Rows.{lanes_in, low_in, HasAlive, IsRow};
 ghost use Rattle.roman_joint.specs.Bands.{mid_in, band_in, AllAlive, FollowsAlive, IsBandAttempt, SuitsBand, ClearsServed, ClearsAllServed};
 
-use crate::attempt::{Attempt, rows_before, target_move_of};
+use crate::attempt::{Attempt, row_outcomes, target_move_of};
 use crate::joint::Joint;
 use crate::moving::clear_moving;
 use crate::row::Row;
@@ -27,7 +27,7 @@ fn clear_before(joint: &Joint, attempt: &Attempt<'_>, k: u8, left: &mut [u64])
     ensures { (alive : List ℕ) → ClearsServed (system_of joint.now) attempt.now alive k left.old left.new }
 {
     let rows = joint.layout();
-    let Some(to) = rows_before(joint, attempt, k) else {
+    let Some(to) = row_outcomes(joint, attempt, k) else {
         return;
     };
     clear_alive(left, attempt.words, &to, rows.full);

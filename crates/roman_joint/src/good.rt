@@ -3,7 +3,7 @@ ghost use Rattle.std.specs.Prelude.{◌≡◌, ℕ, ◌*◌, ◌<◌, ◌≤◌,
 ghost use Rattle.roman_joint.specs.NamedSys.{system_of};
 ghost use Rattle.roman_joint.specs.Rows.{low_in, HasAlive, IsAttempt, AreAlive, AreServed};
 
-use crate::attempt::{Attempt, rows_before, target_move_of};
+use crate::attempt::{Attempt, row_outcomes, target_move_of};
 use crate::joint::Joint;
 use crate::row::Row;
 use crate::words::{all_alive, moves_alive, rows_alive};
@@ -16,7 +16,7 @@ fn good_before(joint: &Joint, attempt: &Attempt<'_>, k: u8) -> u64
     ensures { (alive : ℕ) → AreServed (system_of joint.now) attempt.now alive k result }
 {
     let rows = joint.layout();
-    let Some(to) = rows_before(joint, attempt, k) else {
+    let Some(to) = row_outcomes(joint, attempt, k) else {
         return 0;
     };
     all_alive(attempt.words, &to, rows.full)

@@ -18,7 +18,7 @@ mod walks;
 
 use crate::error::JointError;
 use crate::layout::Layout;
-use crate::moves::{Move, Moves, part};
+use crate::moves::{Move, Moves, moves_between};
 use crate::seat::{Parts, Seat};
 use crate::seats::shape_of;
 use crate::tables::tables_of;
@@ -222,7 +222,7 @@ impl Joint {
         let lows = u32::from(self.seats()) - u32::from(rows.low);
         let at = attempt * lows + u32::from(k - rows.low);
         let span = table.spans[at as usize];
-        (span.some, part(&table.moves, span.first, span.end))
+        (span.some, moves_between(&table.moves, span.first, span.end))
     }
 
     /// Returns the greatest number of cells, pairs times actions, that the system may have.

@@ -37,7 +37,7 @@ pub(crate) struct Layout {
 
 /// Returns how the numbers of a shape's pairs split.
 #[tactic(auto, using(crate::proofs::LeadLemmas::stride_positive, crate::proofs::SplitLemmas::size_positive))]
-pub(crate) fn rows_of(shape: &Shape) -> Layout
+pub(crate) fn layout_of(shape: &Shape) -> Layout
     ensures { IsLayoutOf shape.now result }
 {
     shape.known(); // no size is 0

@@ -3,7 +3,7 @@ ghost use Rattle.std.specs.Prelude.{◌≡◌, ℕ, ◌+◌, ◌*◌, ◌^◌, �
 ghost use Rattle.roman_joint.specs.NamedSys.{system_of};
 ghost use Rattle.roman_joint.specs.Rows.{IsRow};
 ghost use Rattle.roman_joint.specs.Bands.{mid_in};
-ghost use Rattle.roman_joint.specs.Marks.{IsMarked, Grows, Marks, IsArrival, IsMoved, IsBeforeSeat, IsBeforeTarget, IsBeforeEnv, IsBeforeAction, seat_steps, target_steps, env_steps, action_steps};
+ghost use Rattle.roman_joint.specs.Marks.{IsMarked, Grows, Marks, IsArrival, IsMoved, IsBeforeSeat, IsBeforeTarget, IsBeforeEnv, IsBeforeAction, seat_work, target_work, env_work, action_work};
 ghost use Rattle.roman_joint.specs.Pairs.{joint_actions};
 
 use crate::joint::Joint;
@@ -74,7 +74,7 @@ fn mark_seat<L: Ledger>(by: &Arrival<'_>, marks: &mut [u64], base: u64, k: u8, s
     requires seat { k < mid_in (system_of by.now.joint.now) }
     ensures { let b = by.now in let s = system_of b.joint.now in
         Marks (IsBeforeSeat s b.row.now b.action b.env base k)
-        (seat_steps s b.row.now b.action b.env k) marks.old marks.new steps.old steps.new }
+        (seat_work s b.row.now b.action b.env k) marks.old marks.new steps.old steps.new }
 {
     let rows = by.joint.layout();
     let own = by.row.states[k as usize];
@@ -94,7 +94,7 @@ fn mark_target<L: Ledger>(by: &Arrival<'_>, marks: &mut [u64], t: u8, steps: &mu
     requires { IsArrival by.now }
     ensures { let s = system_of by.now.joint.now in
         Marks (IsBeforeTarget s by.now.row.now by.now.action by.now.env t)
-        (target_steps s by.now.row.now by.now.action by.now.env) marks.old marks.new steps.old steps.new }
+        (target_work s by.now.row.now by.now.action by.now.env) marks.old marks.new steps.old steps.new }
 {
     let rows = by.joint.layout();
     let base = times(t, rows.target_rows) + times(by.env, rows.env_rows) + u64::from(by.row.part);
@@ -109,7 +109,7 @@ fn mark_env<L: Ledger>(by: &Arrival<'_>, marks: &mut [u64], steps: &mut Steps<L>
     requires { IsArrival by.now }
     ensures { let s = system_of by.now.joint.now in
         Marks (IsBeforeEnv s by.now.row.now by.now.action by.now.env)
-        (env_steps s by.now.row.now by.now.action by.now.env) marks.old marks.new steps.old steps.new }
+        (env_work s by.now.row.now by.now.action by.now.env) marks.old marks.new steps.old steps.new }
 {
     by.joint.known(); // the target is over the environment
     let targets = by.joint.target().into(by.row.target, by.env, by.action);
@@ -129,7 +129,7 @@ pub(crate) fn mark_action<L: Ledger>(
     requires row { (x : ℕ) × IsRow (system_of joint.now) x row.now }
     requires action { a < joint_actions joint.now }
     ensures { let s = system_of joint.now in
-        Marks (IsBeforeAction s row.now a) (action_steps s row.now a) marks.old marks.new steps.old steps.new }
+        Marks (IsBeforeAction s row.now a) (action_work s row.now a) marks.old marks.new steps.old steps.new }
 {
     joint.known(); // there are at most 32 actions
     if (row.leading >> a) & 1 == 0 {

@@ -51,7 +51,7 @@ pub(crate) struct Moves {
 }
 
 /// Returns the moves of a table from place `first` on, up to place `end`.
-pub(crate) fn part(moves: &[Move], first: u32, end: u32) -> &[Move]
+pub(crate) fn moves_between(moves: &[Move], first: u32, end: u32) -> &[Move]
     requires order { first ≤ end }
     requires within { end ≤ length moves.now }
     ensures { result.now ≡ slice_range moves.now first end }

@@ -4,10 +4,10 @@ ghost use Rattle.roman_joint.specs.Moves.{AreSmall, SuitsMoving, LosesMoving};
 
 use crate::moves::Move;
 use crate::words::each_moves_alive;
-use roman_lanes::{Change, ChangeOf, change_each, load, without};
+use roman_lanes::{Update, UpdateOf, load, update_each, without};
 use std::simd::prelude::*;
 
-/// A change of words: each word loses the lanes of `some` from which all moves lead to lanes of the
+/// An update of words: each word loses the lanes of `some` from which all moves lead to lanes of the
 /// word of `alive` at its place.
 #[derive(Clone, Copy)]
 struct Moving<'a> {
@@ -16,19 +16,19 @@ struct Moving<'a> {
     some: u64,
 }
 
-impl Change for Moving<'_> {
+impl Update for Moving<'_> {
     ghost use Rattle.std.specs.Prelude.{slice_index};
     ghost use Rattle.roman_joint.specs.Moves.{SuitsMoving, LosesMoving};
 
-    ghost suits = { λ change many. SuitsMoving change.alive.now change.moves.now many };
+    ghost suits = { λ update many. SuitsMoving update.alive.now update.moves.now many };
 
-    ghost makes = { λ change i old new.
-        LosesMoving change.some change.moves.now (slice_index change.alive.now i) old new };
+    ghost makes = { λ update i old new.
+        LosesMoving update.some update.moves.now (slice_index update.alive.now i) old new };
 }
 
-impl<const N: usize> ChangeOf<N> for Moving<'_> {
+impl<const N: usize> UpdateOf<N> for Moving<'_> {
     #[inline(always)]
-    fn changed(&self, words: Simd<u64, N>, at: usize) -> Simd<u64, N>
+    fn updated(&self, words: Simd<u64, N>, at: usize) -> Simd<u64, N>
         requires { (many : ℕ) × (at + N ≤ many) × SuitsMoving self.now.alive.now self.now.moves.now many }
         ensures long { length result ≡ N }
         ensures each { (i : ℕ) → i < N → LosesMoving self.now.some self.now.moves.now
@@ -51,5 +51,5 @@ pub(crate) fn clear_moving(left: &mut [u64], alive: &[u64], moves: &[Move], some
     ensures each { (i : ℕ) → i < length left.old → LosesMoving some moves.now (slice_index alive.now i)
         (slice_index left.old i) (slice_index left.new i) }
 {
-    change_each(&Moving { alive, moves, some }, left);
+    update_each(&Moving { alive, moves, some }, left);
 }

@@ -5,7 +5,7 @@ ghost use Rattle.roman_joint.specs.Outcomes.{is_missing, is_missing_in, AreWithi
 ghost use Rattle.roman_joint.specs.Bands.{SuitsStripe, LosesStripe, LosesAlive, CanGo};
 
 use crate::outcomes::Outcomes;
-use roman_lanes::{Change, ChangeOf, Taking, both, change_each, less, load, without};
+use roman_lanes::{Taking, Update, UpdateOf, both, less, load, update_each, without};
 use roman_rules::BAND;
 use std::simd::prelude::*;
 
@@ -88,7 +88,7 @@ pub(crate) fn clear_alive(left: &mut [u64], words: &[u64], rows: &Outcomes<'_>, 
     less(left, &words[from..]);
 }
 
-/// A change of words: the word at place i loses the lanes that are set in all words
+/// An update of words: the word at place i loses the lanes that are set in all words
 /// `from + i + b * stride` of `alive`, for each state b.
 #[derive(Clone, Copy)]
 pub(crate) struct Stripe<'a> {
@@ -98,7 +98,7 @@ pub(crate) struct Stripe<'a> {
     pub(crate) stride: usize,
 }
 
-impl Change for Stripe<'_> {
+impl Update for Stripe<'_> {
     ghost use Rattle.roman_joint.specs.Bands.{SuitsStripe, LosesStripe};
 
     ghost suits = { SuitsStripe };
@@ -106,9 +106,9 @@ impl Change for Stripe<'_> {
     ghost makes = { LosesStripe };
 }
 
-impl<const N: usize> ChangeOf<N> for Stripe<'_> {
+impl<const N: usize> UpdateOf<N> for Stripe<'_> {
     #[inline(always)]
-    fn changed(&self, words: Simd<u64, N>, at: usize) -> Simd<u64, N>
+    fn updated(&self, words: Simd<u64, N>, at: usize) -> Simd<u64, N>
         requires { (many : ℕ) × (at + N ≤ many) × SuitsStripe self.now many }
         ensures long { length result ≡ N }
         ensures each { (i : ℕ) → i < N → LosesStripe self.now (at + i) (slice_index words.entry i)
@@ -122,9 +122,9 @@ impl<const N: usize> ChangeOf<N> for Stripe<'_> {
     }
 }
 
-/// Makes the change of a stripe in all words.
+/// Makes the update of a stripe in all words.
 #[inline(always)]
-fn change_stripe(words: &mut [u64], stripe: &Stripe<'_>)
+fn update_words(words: &mut [u64], stripe: &Stripe<'_>)
     requires { SuitsStripe stripe.now (length words.old) }
     ensures long { length words.new ≡ length words.old }
     ensures each { (i : ℕ) → i < length words.old → LosesStripe stripe.now i (slice_index words.old i)
@@ -133,13 +133,13 @@ fn change_stripe(words: &mut [u64], stripe: &Stripe<'_>)
     if stripe.states.len() == 1 {
         let from = stripe.from + usize::from(stripe.states[0]) * stripe.stride;
         let other = &stripe.alive[from..];
-        change_each(&Taking { other }, words);
+        update_each(&Taking { other }, words);
     } else {
-        change_each(stripe, words);
+        update_each(stripe, words);
     }
 }
 
-/// Makes the change of a stripe in as many words of `left` as its stride, from place `to` on.
+/// Makes the update of a stripe in as many words of `left` as its stride, from place `to` on.
 fn clear_stripe(left: &mut [u64], to: usize, stripe: &Stripe<'_>)
     requires to { to + stripe.now.stride ≤ length left.old }
     requires suits { SuitsStripe stripe.now stripe.now.stride }
@@ -149,10 +149,10 @@ fn clear_stripe(left: &mut [u64], to: usize, stripe: &Stripe<'_>)
     ensures below { (i : ℕ) → i < to → slice_index left.new i ≡ slice_index left.old i }
     ensures above { (i : ℕ) → to + stripe.now.stride ≤ i → slice_index left.new i ≡ slice_index left.old i }
 {
-    change_stripe(&mut left[to..to + stripe.stride], stripe);
+    update_words(&mut left[to..to + stripe.stride], stripe);
 }
 
-/// Makes the change of a stripe in the words of `left` in which a component is in state `b`, of `size`
+/// Makes the update of a stripe in the words of `left` in which a component is in state `b`, of `size`
 /// states. The words are `blocks` blocks, each with the words of all states. `stripe` is the stripe of the
 /// first block, and its states are those to which the component goes.
 pub(crate) fn clear_state(left: &mut [u64], stripe: &Stripe<'_>, b: u8, size: u8, blocks: usize)

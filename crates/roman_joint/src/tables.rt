@@ -4,7 +4,7 @@ ghost use Rattle.roman_joint.specs.NamedSys.{TargetIsOverEnv};
 ghost use Rattle.roman_joint.specs.Moves.{AreSeatsIn};
 ghost use Rattle.roman_joint.specs.Layout.{AreTables};
 
-use crate::layout::{Layout, rows_of};
+use crate::layout::{Layout, layout_of};
 use crate::moves::{Moves, moves_of};
 use crate::seat::{Parts, Seat};
 use crate::seats::copy_seats;
@@ -32,7 +32,7 @@ pub(crate) fn tables_of(
     requires seats { AreSeatsIn parts.now shape.now }
     ensures { IfOk result (AreTables parts.now shape.now) }
 {
-    let rows = rows_of(shape);
+    let rows = layout_of(shape);
     let target_views = all_target_views(alloc, parts.environment, parts.target)?;
     let moves = moves_of(alloc, parts, shape, &rows)?;
     let places = copy_seats(alloc, parts.seats)?;

@@ -10,4 +10,4 @@ pub use Rattle.std.proofs.lemmas.Simd.{Each1-get_or, bitmask_splat, get_or-chunk
 pub use Rattle.std.specs.Int.{bit_at, bit_not, w64}
 pub use Rattle.std.specs.Simd.Lanes.{chunk, put_chunk, zip2}
 unfoldable pub use Rattle.roman_lanes.specs.Rows.{is_on}
-pub use Rattle.roman_lanes.specs.Words.{AreClear, AreClearFrom, ChangesPart}
+pub use Rattle.roman_lanes.specs.Words.{AreClear, AreClearFrom, UpdatesBetween}

@@ -1,4 +1,4 @@
 pub mod Common
 pub mod RowBits
-mod Parts
+mod Blocks
 pub mod CallerLemmas

@@ -35,7 +35,7 @@ pub(crate) fn is_clear(words: &[u64], at: usize) -> bool
 
 /// Returns the N words from `at` on. Requires that there are that many.
 #[inline(always)]
-#[tactic(auto, using(crate::proofs::Parts::chunks))]
+#[tactic(auto, using(crate::proofs::Blocks::chunks))]
 pub fn load<const N: usize>(words: &[u64], at: usize) -> Simd<u64, N>
     requires { at + N ≤ length words.now }
     ensures long { length result ≡ N }
@@ -46,7 +46,7 @@ pub fn load<const N: usize>(words: &[u64], at: usize) -> Simd<u64, N>
 
 /// Returns the bitwise or of the two vectors.
 #[inline(always)]
-#[tactic(auto, using(crate::proofs::Parts::either_clear))]
+#[tactic(auto, using(crate::proofs::Blocks::either_clear))]
 fn either(a: u64x8, b: u64x8) -> u64x8
     ensures { AreClear result → AreClear a × AreClear b }
 {

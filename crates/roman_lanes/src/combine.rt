@@ -3,7 +3,7 @@ ghost use Rattle.std.specs.Prelude.{◌≡◌, ℕ, ◌+◌, ◌<◌, ◌≤◌,
 ghost use Rattle.roman_lanes.specs.Rows.{is_on, LosesLanes};
 
 use crate::block::load;
-use crate::change::{Change, ChangeOf, change_each};
+use crate::update::{Update, UpdateOf, update_each};
 use std::simd::prelude::*;
 
 /// Clears the bits that aren't set in the words of `with`.
@@ -12,18 +12,18 @@ struct Meeting<'a> {
     with: &'a [u64],
 }
 
-impl Change for Meeting<'_> {
+impl Update for Meeting<'_> {
     ghost use Rattle.std.specs.Prelude.{◌≡◌, ◌≤◌, length, slice_index, bit_and};
 
-    ghost suits = { λ change many. many ≤ length change.with.now };
+    ghost suits = { λ update many. many ≤ length update.with.now };
 
-    ghost makes = { λ change i old new. new ≡ bit_and old (slice_index change.with.now i) };
+    ghost makes = { λ update i old new. new ≡ bit_and old (slice_index update.with.now i) };
 }
 
-impl<const N: usize> ChangeOf<N> for Meeting<'_> {
+impl<const N: usize> UpdateOf<N> for Meeting<'_> {
     #[inline(always)]
-    #[tactic(auto, using(crate::proofs::Parts::chunks))]
-    fn changed(&self, words: Simd<u64, N>, at: usize) -> Simd<u64, N>
+    #[tactic(auto, using(crate::proofs::Blocks::chunks))]
+    fn updated(&self, words: Simd<u64, N>, at: usize) -> Simd<u64, N>
         requires { (many : ℕ) × (at + N ≤ many) × (many ≤ length self.now.with.now) }
         ensures long { length result ≡ N }
         ensures each { (k : ℕ) → k < N → slice_index result k ≡ bit_and (slice_index words.entry k)
@@ -50,18 +50,18 @@ pub struct Taking<'a> {
     pub other: &'a [u64],
 }
 
-impl Change for Taking<'_> {
+impl Update for Taking<'_> {
     ghost use Rattle.std.specs.Prelude.{◌≤◌, length, slice_index};
     ghost use Rattle.roman_lanes.specs.Rows.{LosesLanes};
 
-    ghost suits = { λ change many. many ≤ length change.other.now };
+    ghost suits = { λ update many. many ≤ length update.other.now };
 
-    ghost makes = { λ change i old new. LosesLanes (slice_index change.other.now i) old new };
+    ghost makes = { λ update i old new. LosesLanes (slice_index update.other.now i) old new };
 }
 
-impl<const N: usize> ChangeOf<N> for Taking<'_> {
+impl<const N: usize> UpdateOf<N> for Taking<'_> {
     #[inline(always)]
-    fn changed(&self, words: Simd<u64, N>, at: usize) -> Simd<u64, N>
+    fn updated(&self, words: Simd<u64, N>, at: usize) -> Simd<u64, N>
         requires { (many : ℕ) × (at + N ≤ many) × (many ≤ length self.now.other.now) }
         ensures long { length result ≡ N }
         ensures each { (k : ℕ) → k < N → LosesLanes (slice_index self.now.other.now (at + k))
@@ -79,7 +79,7 @@ pub fn both(words: &mut [u64], with: &[u64])
     ensures each { (i : ℕ) → i < length words.old → slice_index words.new i ≡ bit_and (slice_index words.old i)
         (slice_index with.now i) }
 {
-    change_each(&Meeting { with }, words);
+    update_each(&Meeting { with }, words);
 }
 
 /// Clears, in each word, the lanes that are set in the word of `other` at the same place. `other` can
@@ -90,5 +90,5 @@ pub fn less(words: &mut [u64], other: &[u64])
     ensures each { (i lane : ℕ) → i < length words.old → is_on (slice_index words.new i) lane ≡
         (is_on (slice_index words.old i) lane && not (is_on (slice_index other.now i) lane)) }
 {
-    change_each(&Taking { other }, words);
+    update_each(&Taking { other }, words);
 }

@@ -7,14 +7,14 @@
 
 mod block;
 mod cells;
-mod change;
 mod combine;
 mod search;
 #[cfg(test)]
 mod tests;
+mod update;
 
 pub use block::load;
 pub use cells::count_equal;
-pub use change::{Change, ChangeOf, change_each};
 pub use combine::{Taking, both, less, without};
 pub use search::first_set;
+pub use update::{Update, UpdateOf, update_each};

@@ -30,7 +30,7 @@ pub use Rattle.roman_laws.specs.Controllers.{CanGoOn, Controller, ControllersTak
 pub use Rattle.roman_laws.specs.Failing.{AllFailWithin, EveryControllerFails, FailsToRest, FailsWithin}
 pub use Rattle.roman_laws.specs.Following.{Choice, FollowingStays, Follows, end_of}
 pub use Rattle.roman_laws.specs.Greatest.{GreatestIsGreatest, OrderRefutes, ReplayKeeps, UnrelatedLoses}
-pub use Rattle.roman_laws.specs.Losing.{ArePart, GreatWithout, IsLeastFailing, LeastFailingSuffice, LosingNeverHelps, MayAllGo, MayGoAt}
+pub use Rattle.roman_laws.specs.Losing.{AreAmong, GreatWithout, IsLeastFailing, LeastFailingSuffice, LosingNeverHelps, MayAllGo, MayGoAt}
 pub use Rattle.roman_laws.specs.Numbers.{ShapesAreNumbered}
 pub use Rattle.roman_laws.specs.Outcomes.{HasStep, OutcomesAreSteps, TestsAreMembership}
 pub use Rattle.roman_laws.specs.Reduced.{IsReduced, ReducedAreSystems}

@@ -1,5 +1,5 @@
 -- The loss of services never helps, and the least failing sets determine the sets that fail.
-use Rattle.roman_laws.proofs.Common.{◌≡◌, ℕ, suc, ◌<◌, Bool, true, not, ◌&&◌, ◌||◌, List, [], ◌∷◌, length, Some, IsTrue, IsFalse, slice_get, slice_index, slice_set, remove, refl, sym, ap, ◌∙◌, subst, arith, zero, ◌==◌, cond, ◌++◌, inl, inr, filter, same_Some, slice_get_within, none-some, IsIn, Seat, Sys, Pair, has, IsSys, IsPair, SStep, is_final, all_final, Couple, Meets, GreatCouple, Great, couple, set_frozen, without, may_go, freeze_at, leave_out, system_without, pair_without, by_test, number_listed, listed_number, left, great_meets, states_long, all_final-remove, get-remove, index-remove, index_set_place, place_before, set-remove, freeze_one, in_append_left, in_append_right, from_append, leave_out_same, other_zero, suc_same, zero_other, same_test, filter_in, in_filter, GreatWithout, ArePart, MayGoAt, LosingNeverHelps, MayAllGo, IsLeastFailing, LeastFailingSuffice, or_parts, or_from, both_ways, eqb-true, or_right, or_cases, eq-eqb, not-true, not_from_false, length-set, AllZip-right, AllZip, is_related, Way, ◌⊎◌, IsReduced}
+use Rattle.roman_laws.proofs.Common.{◌≡◌, ℕ, suc, ◌<◌, Bool, true, not, ◌&&◌, ◌||◌, List, [], ◌∷◌, length, Some, IsTrue, IsFalse, slice_get, slice_index, slice_set, remove, refl, sym, ap, ◌∙◌, subst, arith, zero, ◌==◌, cond, ◌++◌, inl, inr, filter, same_Some, slice_get_within, none-some, IsIn, Seat, Sys, Pair, has, IsSys, IsPair, SStep, is_final, all_final, Couple, Meets, GreatCouple, Great, couple, set_frozen, without, may_go, freeze_at, leave_out, system_without, pair_without, by_test, number_listed, listed_number, left, great_meets, states_long, all_final-remove, get-remove, index-remove, index_set_place, place_before, set-remove, freeze_one, in_append_left, in_append_right, from_append, leave_out_same, other_zero, suc_same, zero_other, same_test, filter_in, in_filter, GreatWithout, AreAmong, MayGoAt, LosingNeverHelps, MayAllGo, IsLeastFailing, LeastFailingSuffice, or_parts, or_from, both_ways, eqb-true, or_right, or_cases, eq-eqb, not-true, not_from_false, length-set, AllZip-right, AllZip, is_related, Way, ◌⊎◌, IsReduced}
 use Rattle.roman_laws.proofs.GreatestLemmas.{closed_great}
 use Rattle.roman_laws.proofs.ReducedLemmas.{IsSys-reduced, IsPair-reduced, reduced_are}
 use Rattle.roman_laws.proofs.OutcomeLemmas.{final_at}
@@ -61,7 +61,7 @@ pub freeze_at_besides : (at : ℕ → Bool) (xs : List Seat) → AreFrozenMore x
 freeze_at_besides at [] = tt
 freeze_at_besides at (x ∷ xs) = ((refl, refl, λ f. (or_parts x.frozen (at 0) f).0), freeze_at_besides (λ i. at (suc i)) xs)
 
-pub frozen_more : (s : Sys) (p : Pair) (K J : List ℕ) → ArePart K J → GreatWithout way.Freeze s p J → GreatWithout way.Freeze s p K
+pub frozen_more : (s : Sys) (p : Pair) (K J : List ℕ) → AreAmong K J → GreatWithout way.Freeze s p J → GreatWithout way.Freeze s p K
 frozen_more s p K J more great = great_thawed s (freeze_at (has K) s.seats) (freeze_at (has J) s.seats) (freeze_at_more (has K) (has J) s.seats (λ i t. listed_number J i (more i (number_listed K i t)))) p great
 
 -- The loss of a seat that may go.
@@ -162,7 +162,7 @@ more_back s p (j ∷ js) K ok pair may great =
     (λ t. same_without s p (j ∷ (js ++ K)) (js ++ K) (grind (arith, same_test, or_cases, eqb-true, or_right)) great)
     (grind (arith, one_back, both_ways, listed_number, in_append_right)))
 
-pub more_gone : (s : Sys) (p : Pair) (K J : List ℕ) → IsSys s → IsPair s p → ArePart K J → ((k : ℕ) → IsIn k J → (IsIn k K → ⊥) → MayGoAt s p k) →
+pub more_gone : (s : Sys) (p : Pair) (K J : List ℕ) → IsSys s → IsPair s p → AreAmong K J → ((k : ℕ) → IsIn k J → (IsIn k K → ⊥) → MayGoAt s p k) →
     GreatWithout way.Die s p J → GreatWithout way.Die s p K
 more_gone s p K J ok pair more may great = more_back s p J K ok pair may (same_without s p J (J ++ K) both great)
   where
@@ -185,18 +185,18 @@ losing_never s p = record {
 
 -- Least failing sets.
 
-may_part : (how : Way) (s : Sys) (p : Pair) (K J : List ℕ) → ArePart K J → MayAllGo how s p J → MayAllGo how s p K
+may_part : (how : Way) (s : Sys) (p : Pair) (K J : List ℕ) → AreAmong K J → MayAllGo how s p J → MayAllGo how s p K
 may_part way.Freeze s p K J part may = tt
 may_part way.Die s p K J part may = λ k i. may k (part k i)
 
 -- a pair that is related when more seats fail is related when fewer fail
-pub great_more : (how : Way) (s : Sys) (p : Pair) (K J : List ℕ) → IsSys s → IsPair s p → MayAllGo how s p J → ArePart K J → GreatWithout how s p J → GreatWithout how s p K
+pub great_more : (how : Way) (s : Sys) (p : Pair) (K J : List ℕ) → IsSys s → IsPair s p → MayAllGo how s p J → AreAmong K J → GreatWithout how s p J → GreatWithout how s p K
 great_more way.Freeze s p K J ok pair may more great = frozen_more s p K J more great
 great_more way.Die s p K J ok pair may more great = more_gone s p K J ok pair more (λ k i other. may k i) great
 
 -- each failing part of J contains the seats of J that aren't in `rest`; each seat of `rest` stays or is left out in turn
 least_of : (how : Way) (s : Sys) (p : Pair) (J rest : List ℕ) → IsSys s → IsPair s p → MayAllGo how s p J → (GreatWithout how s p J → ⊥) →
-    ((N : List ℕ) → ArePart N J → (GreatWithout how s p N → ⊥) → (j : ℕ) → IsIn j J → IsIn j rest ⊎ IsIn j N) → (M : List ℕ) × ArePart M J × IsLeastFailing how s p M
+    ((N : List ℕ) → AreAmong N J → (GreatWithout how s p N → ⊥) → (j : ℕ) → IsIn j J → IsIn j rest ⊎ IsIn j N) → (M : List ℕ) × AreAmong M J × IsLeastFailing how s p M
 least_of how s p J [] ok pair may fails needed =
     (J, λ k i. i, record { fails = fails; least = λ N part bad j i. elim (needed N part bad j i) [ inl none ↦ absurd none | inr there ↦ there ] })
 least_of how s p J (k ∷ rest) ok pair may fails needed =
@@ -219,14 +219,14 @@ least_of how s p J (k ∷ rest) ok pair may fails needed =
     K : List ℕ
     K = filter (λ j. not (j == k)) J
 
-    within : ArePart K J
+    within : AreAmong K J
     within j i = (filter_in (λ j. not (j == k)) j J i).0
 
     reduced : IsReduced how K s p
     reduced = reduced_are how K s p ok pair
 
     -- a failing part contains k, if J without k doesn't fail
-    with_k : GreatWithout how s p K → (N : List ℕ) → ArePart N J → (GreatWithout how s p N → ⊥) → IsIn k N
+    with_k : GreatWithout how s p K → (N : List ℕ) → AreAmong N J → (GreatWithout how s p N → ⊥) → IsIn k N
     with_k works N part bad = by_test (has N k) (number_listed N k)
         (λ f. absurd (bad (great_more how s p N K ok pair (may_part how s p K J within may) (λ j i. grind (arith, both_ways, listed_number, in_filter, eqb-true, by_test, not_from_false)) works)))
 

@@ -15,8 +15,8 @@ abbrev pub GreatWithout : Way → Sys → Pair → List ℕ → Type 0
 GreatWithout how s p K = Great (system_without how K s) (pair_without how K p)
 
 -- each place of K is in J
-abbrev pub ArePart : List ℕ → List ℕ → Type 0
-ArePart K J = (k : ℕ) → IsIn k K → IsIn k J
+abbrev pub AreAmong : List ℕ → List ℕ → Type 0
+AreAmong K J = (k : ℕ) → IsIn k K → IsIn k J
 
 -- the seat at place k is loose, or in a final state: it doesn't keep p from being final
 abbrev pub MayGoAt : Sys → Pair → ℕ → Type 0
@@ -27,10 +27,10 @@ MayGoAt s p k = (seat : Seat) × (slice_get s.seats k ≡ Some seat) × IsTrue (
 -- if it is frozen, and its death may help.) If the target is final, each seat of a related pair may go.
 pub record LossNeverHelps (s : Sys) (p : Pair) : Type 0 where
   pub one_frozen : (k : ℕ) → Great (after (change.Freeze k) s) p → Great s p
-  pub more_frozen : (K J : List ℕ) → ArePart K J → GreatWithout way.Freeze s p J → GreatWithout way.Freeze s p K
+  pub more_frozen : (K J : List ℕ) → AreAmong K J → GreatWithout way.Freeze s p J → GreatWithout way.Freeze s p K
   pub any_frozen : (K : List ℕ) → GreatWithout way.Freeze s p K → Great s p
   pub one_gone : IsSys s → IsPair s p → (k : ℕ) (seat : Seat) → slice_get s.seats k ≡ Some seat → IsTrue (may_go k seat p) → Great (after (change.Die k seat) s) (without k p) → Great s p
-  pub more_gone : IsSys s → IsPair s p → (K J : List ℕ) → ArePart K J → ((k : ℕ) → IsIn k J → (IsIn k K → ⊥) → MayGoAt s p k) →
+  pub more_gone : IsSys s → IsPair s p → (K J : List ℕ) → AreAmong K J → ((k : ℕ) → IsIn k J → (IsIn k K → ⊥) → MayGoAt s p k) →
       GreatWithout way.Die s p J → GreatWithout way.Die s p K
   pub final_may_go : Great s p → IsTrue (is_final s.target p.t) → (k : ℕ) (seat : Seat) → slice_get s.seats k ≡ Some seat → IsTrue (may_go k seat p)
 
@@ -46,10 +46,10 @@ MayAllGo way.Die s p K = (k : ℕ) → IsIn k K → MayGoAt s p k
 -- the reduced pair is unrelated if these seats fail, and related if only some of them fail
 pub record IsLeastFailing (how : Way) (s : Sys) (p : Pair) (M : List ℕ) : Type 0 where
   pub fails : GreatWithout how s p M → ⊥
-  pub least : (N : List ℕ) → ArePart N M → (GreatWithout how s p N → ⊥) → ArePart M N
+  pub least : (N : List ℕ) → AreAmong N M → (GreatWithout how s p N → ⊥) → AreAmong M N
 
 -- the reduced pair is unrelated exactly when the seats that fail contain a least failing set
 abbrev pub LeastFailingSuffice : Type 0
 LeastFailingSuffice =
     (how : Way) (s : Sys) (p : Pair) (K : List ℕ) → IsSys s → IsPair s p → MayAllGo how s p K →
-    (GreatWithout how s p K → ⊥) ↔ ((M : List ℕ) × ArePart M K × IsLeastFailing how s p M)
+    (GreatWithout how s p K → ⊥) ↔ ((M : List ℕ) × AreAmong M K × IsLeastFailing how s p M)

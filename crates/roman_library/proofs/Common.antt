@@ -38,7 +38,7 @@ pub use Rattle.serde_json.specs.Events.{items_len}
 pub use Rattle.serde_json.specs.View.{items_view, view}
 pub use Rattle.serde_json.specs.declared.value.Value.{Value}
 pub use Rattle.roman_library.specs.Documents.{PartAt, ReadAfter, behaviour_place, broken_rule, frozen_of, part_of, rests_of, value_at, version_of}
-unfoldable pub use Rattle.roman_library.specs.Documents.{catalogue_in, combined_of, environment_in, library_in, library_of, limit_in, limit_of, listed_in, listed_step, named_target_of, new_behaviour_of, new_name_of, parts_in, service_of, service_step, services_of, state_of, target_in, targets_in}
+unfoldable pub use Rattle.roman_library.specs.Documents.{catalogue_in, combined_of, environment_in, library_in, library_of, limit_in, limit_of, listed_in, named_target_of, new_behaviour_of, new_name_of, parts_in, service_of, services_of, state_of, target_in, targets_in, with_listed, with_service_read}
 pub use Rattle.roman_library.specs.Known.{IsKnownLibrary, LibrariesAreKnown}
 pub use Rattle.roman_library.specs.Library.{ArePartsOf, AreServices, IsCatalogue, IsService, PlainLibrary, behaviour_name, service_name}
 pub use Rattle.roman_library.specs.Refusals.{Loads, Locates, Stops, located}

@@ -1,5 +1,5 @@
 -- Each accepted document means a well-formed library.
-use Rattle.roman_library.proofs.Common.{All, Bool, Err, IfSome, List, None, Ok, Option, Result, Some, [], ap, arith, codes, cond, false, length, length-append, map, refl, slice_get, subst, sym, true, ℕ, ◌++◌, ◌+◌, ◌<◌, ◌==◌, ◌∷◌, ◌≡◌, ◌≤◌, and_parts, All-get_or, All-push, get_or_from_slice_get, slice_get_within, Texts, MAX_BEHAVIOURS, MAX_CELLS, MAX_SERVICES, request_count, PlainCombined, forbidding, target_name, combined_parts, Named, IsEnvironment, IsOver-start, check_is, counted_are, environment_known, found_is, none_is, place_below, target_known, IsBehaviour, IsTarget, NamedBeh, NamedEnv, NamedTarget, environment_of, name_of, target_of, counted_items, found, looked, PartError, bind_ok, same_ok, ◌>>=◌, each_item, member_of, place_of, Data, Items, item, no_items, items_len, PartAt, ReadAfter, behaviour_place, frozen_of, part_of, rests_of, value_at, version_of, catalogue_in, combined_of, environment_in, library_in, library_of, limit_in, limit_of, listed_in, listed_step, named_target_of, new_behaviour_of, new_name_of, parts_in, service_of, service_step, services_of, state_of, target_in, targets_in, IsKnownLibrary, LibrariesAreKnown, ArePartsOf, AreServices, IsCatalogue, PlainLibrary, behaviour_name, service_name, located, Service, Part, Refusal}
+use Rattle.roman_library.proofs.Common.{All, Bool, Err, IfSome, List, None, Ok, Option, Result, Some, [], ap, arith, codes, cond, false, length, length-append, map, refl, slice_get, subst, sym, true, ℕ, ◌++◌, ◌+◌, ◌<◌, ◌==◌, ◌∷◌, ◌≡◌, ◌≤◌, and_parts, All-get_or, All-push, get_or_from_slice_get, slice_get_within, Texts, MAX_BEHAVIOURS, MAX_CELLS, MAX_SERVICES, request_count, PlainCombined, forbidding, target_name, combined_parts, Named, IsEnvironment, IsOver-start, check_is, counted_are, environment_known, found_is, none_is, place_below, target_known, IsBehaviour, IsTarget, NamedBeh, NamedEnv, NamedTarget, environment_of, name_of, target_of, counted_items, found, looked, PartError, bind_ok, same_ok, ◌>>=◌, each_item, member_of, place_of, Data, Items, item, no_items, items_len, PartAt, ReadAfter, behaviour_place, frozen_of, part_of, rests_of, value_at, version_of, catalogue_in, combined_of, environment_in, library_in, library_of, limit_in, limit_of, listed_in, with_listed, named_target_of, new_behaviour_of, new_name_of, parts_in, service_of, with_service_read, services_of, state_of, target_in, targets_in, IsKnownLibrary, LibrariesAreKnown, ArePartsOf, AreServices, IsCatalogue, PlainLibrary, behaviour_name, service_name, located, Service, Part, Refusal}
 use Rattle.roman_read.specs.declared.rules.Kind.TheVariants as kind
 use Rattle.roman_parts.specs.declared.error.List.TheVariants as list
 use Rattle.roman_library.proofs.TargetLemmas.{combined_parts_known}
@@ -22,23 +22,23 @@ record Grown {X : Type 0} (Keeps : List X → Type 0) (out : List X) (n : ℕ) :
   known : Keeps out
   count : length out ≡ n
 
-module _ {X : Type 0} (step : ℕ → List X → Data → Result (List X) Refusal) (Keeps : List X → Type 0)
-    (keeps : (i : ℕ) (before : List X) (d : Data) (more : List X) → step i before d ≡ Ok more → Keeps before → Grown Keeps more (length before + 1)) where
-  parts_grow : (i : ℕ) (before : List X) (items : Items) (out : List X) → Keeps before → each_item step i before items ≡ Ok out → Grown Keeps out (length before + items_len items)
+module _ {X : Type 0} (add : ℕ → List X → Data → Result (List X) Refusal) (Keeps : List X → Type 0)
+    (keeps : (i : ℕ) (before : List X) (d : Data) (more : List X) → add i before d ≡ Ok more → Keeps before → Grown Keeps more (length before + 1)) where
+  parts_grow : (i : ℕ) (before : List X) (items : Items) (out : List X) → Keeps before → each_item add i before items ≡ Ok out → Grown Keeps out (length before + items_len items)
   unfolding each_item
   parts_grow i before no_items out are h =
       let same = same_ok before out h in
       record { known = subst Keeps same are; count = let e : length before ≡ length out = ap length same in omega arith }
   parts_grow i before (item d ds) out are h =
-      let (more, e, h1) = bind_ok (step i before d) _ out h in
+      let (more, e, h1) = bind_ok (add i before d) _ out h in
       let one = keeps i before d more e are in
       let rest = parts_grow (i + 1) more ds out one.known h1 in
       record { known = rest.known; count = omega (arith, rest.count, one.count) }
 
 -- a part of a list keeps the property of the parts before it, and is one more
 listed_grow : {X : Type 0} (at : PartAt) (read : ReadAfter X) (env : NamedEnv) (Keeps : List X → Type 0) (keeps : (before : List X) (d : Data) (x : X) → read env before d ≡ Ok x → Keeps before → Keeps (before ++ x ∷ []))
-    (texts : Texts) (document : List ℕ) (i : ℕ) (before : List X) (d : Data) (more : List X) → listed_step at read texts document env i before d ≡ Ok more → Keeps before → Grown Keeps more (length before + 1)
-unfolding listed_step listed_in
+    (texts : Texts) (document : List ℕ) (i : ℕ) (before : List X) (d : Data) (more : List X) → with_listed at read texts document env i before d ≡ Ok more → Keeps before → Grown Keeps more (length before + 1)
+unfolding with_listed listed_in
 listed_grow at read env Keeps keeps texts document i before d more h are = grind (arith, bind_ok, located_is, same_ok, length-append, keeps before)
 
 behaviours_grow : (env : NamedEnv) (before : List NamedBeh) (d : Data) (b : NamedBeh) → new_behaviour_of env before d ≡ Ok b → IsCatalogue env before → IsCatalogue env (before ++ b ∷ [])
@@ -101,8 +101,8 @@ service_known version env catalogue before d x are h old =
     }) (name_is_new (map service_name before) d name e).1 refl)
 
 services_grow : (document : List ℕ) (version : ℕ) (env : NamedEnv) (catalogue : List NamedBeh) → IsCatalogue env catalogue → (i : ℕ) (before : List Service) (d : Data) (more : List Service) →
-    service_step document version catalogue i before d ≡ Ok more → AreServices catalogue before → Grown (AreServices catalogue) more (length before + 1)
-unfolding service_step
+    with_service_read document version catalogue i before d ≡ Ok more → AreServices catalogue before → Grown (AreServices catalogue) more (length before + 1)
+unfolding with_service_read
 services_grow document version env catalogue behaviours i before d more h are = grind (arith, bind_ok, located_is, same_ok, length-append, service_known version env catalogue before d)
 
 no_services : (catalogue : List NamedBeh) → AreServices catalogue []

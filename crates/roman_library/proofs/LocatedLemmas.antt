@@ -32,11 +32,11 @@ stops_all (error.Refused refusal) reading f stops = rw stops
 stops_all error.Memory reading f stops = tt
 
 -- the refusal of an item is the refusal of the list
-pub stops_left : {X : Type 0} (step : ℕ → List X → Data → Result (List X) Refusal) (items : List Value) (i : ℕ) (before : List X) (x : Value) (why : LoadError) (all : Result (List X) Refusal)
-    → i < length items → x ≡ get_or items i x → Stops why (step i before (view x)) → IsLeft step items i before all → Stops why all
-stops_left step items i before x error.Fault all h e stops left = tt
-stops_left step items i before x (error.Refused refusal) all h e stops left = ends step items i before x refusal all h e stops left
-stops_left step items i before x error.Memory all h e stops left = tt
+pub stops_left : {X : Type 0} (add : ℕ → List X → Data → Result (List X) Refusal) (items : List Value) (i : ℕ) (before : List X) (x : Value) (why : LoadError) (all : Result (List X) Refusal)
+    → i < length items → x ≡ get_or items i x → Stops why (add i before (view x)) → IsLeft add items i before all → Stops why all
+stops_left add items i before x error.Fault all h e stops left = tt
+stops_left add items i before x (error.Refused refusal) all h e stops left = ends add items i before x refusal all h e stops left
+stops_left add items i before x error.Memory all h e stops left = tt
 
 -- a fact about the texts of a shelf that exposes them
 pub where_told : (told : Option Texts) (P : Texts → Type 0) → ((texts : Texts) → told ≡ Some texts → P texts) → IfSome told P

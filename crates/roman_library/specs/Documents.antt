@@ -97,9 +97,9 @@ listed_in at read texts document env before i d = do
   (file, value) ← part_of texts document (at i) d
   located file (at i) (read env before value)
 
--- the step that reads part i of a list after the parts before it, and appends it
-unfoldable pub listed_step : {X : Type 0} → PartAt → ReadAfter X → Texts → List ℕ → NamedEnv → ℕ → List X → Data → Result (List X) Refusal
-listed_step at read texts document env i before d = listed_in at read texts document env before i d >>= (λ x. Ok (before ++ x ∷ []))
+-- the parts of a list before part i, with part i
+unfoldable pub with_listed : {X : Type 0} → PartAt → ReadAfter X → Texts → List ℕ → NamedEnv → ℕ → List X → Data → Result (List X) Refusal
+with_listed at read texts document env i before d = listed_in at read texts document env before i d >>= (λ x. Ok (before ++ x ∷ []))
 
 -- ---- the environment, the behaviours and the target
 
@@ -125,15 +125,15 @@ new_behaviour_of env before d = new_name_of (map behaviour_name before) d >>= (�
 abbrev pub behaviour_in : Texts → List ℕ → NamedEnv → List NamedBeh → ℕ → Data → Result NamedBeh Refusal
 behaviour_in texts document env before i d = listed_in part.Behaviour new_behaviour_of texts document env before i d
 
--- the step that reads behaviour i after the behaviours before it, and appends it
-abbrev pub behaviour_step : Texts → List ℕ → NamedEnv → ℕ → List NamedBeh → Data → Result (List NamedBeh) Refusal
-behaviour_step texts document env = listed_step part.Behaviour new_behaviour_of texts document env
+-- the behaviours before behaviour i, with behaviour i
+abbrev pub with_behaviour : Texts → List ℕ → NamedEnv → ℕ → List NamedBeh → Data → Result (List NamedBeh) Refusal
+with_behaviour texts document env = with_listed part.Behaviour new_behaviour_of texts document env
 
 -- the behaviours of a document
 unfoldable pub catalogue_in : Texts → List ℕ → NamedEnv → Data → Result (List NamedBeh) Refusal
 catalogue_in texts document env d = do
   items ← located document part.System (counted_items list.Behaviours (codes "behaviours") 0 MAX_BEHAVIOURS d)
-  each_item (behaviour_step texts document env) 0 [] items
+  each_item (with_behaviour texts document env) 0 [] items
 
 -- the target of a document
 unfoldable pub target_in : Texts → List ℕ → NamedEnv → Data → Result NamedTarget Refusal
@@ -151,15 +151,15 @@ named_target_of env before d = do
   target ← target_of env d
   Ok (record { name = name; target = target })
 
--- the step that reads target i, and appends it
-abbrev pub target_step : Texts → List ℕ → NamedEnv → ℕ → List Named → Data → Result (List Named) Refusal
-target_step texts document env = listed_step part.Target named_target_of texts document env
+-- the targets before target i, with target i
+abbrev pub with_target : Texts → List ℕ → NamedEnv → ℕ → List Named → Data → Result (List Named) Refusal
+with_target texts document env = with_listed part.Target named_target_of texts document env
 
 -- the targets of a document, from two to four
 unfoldable pub targets_in : Texts → List ℕ → NamedEnv → Data → Result (List Named) Refusal
 targets_in texts document env d = do
   items ← located document part.System (counted_items list.Targets (codes "targets") 2 4 d)
-  each_item (target_step texts document env) 0 [] items
+  each_item (with_target texts document env) 0 [] items
 
 -- the refusal for a broken rule on the combined states and actions, with the number of the rule
 abbrev pub broken_rule : CombineError → PartError
@@ -220,16 +220,16 @@ service_of version catalogue before d = do
   rests ← rests_of version d
   Ok (record { name = name; behaviour = place; state = state; frozen = frozen; rests = rests })
 
--- the step that reads service i, and appends it
-unfoldable pub service_step : List ℕ → ℕ → List NamedBeh → ℕ → List Service → Data → Result (List Service) Refusal
-service_step document version catalogue i before d =
+-- the services before service i, with service i
+unfoldable pub with_service_read : List ℕ → ℕ → List NamedBeh → ℕ → List Service → Data → Result (List Service) Refusal
+with_service_read document version catalogue i before d =
     located document (part.Service i) (service_of version catalogue before d) >>= (λ service. Ok (before ++ service ∷ []))
 
 -- the services of a document
 unfoldable pub services_of : List ℕ → ℕ → List NamedBeh → Data → Result (List Service) Refusal
 services_of document version catalogue d = do
   items ← located document part.System (counted_items list.Services (codes "services") 0 MAX_SERVICES d)
-  each_item (service_step document version catalogue) 0 [] items
+  each_item (with_service_read document version catalogue) 0 [] items
 
 -- ---- the document
 

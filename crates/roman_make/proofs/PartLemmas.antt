@@ -13,17 +13,17 @@ floor_is states actions s a = rw (s, a) refl
 
 -- the steps of a table, each with the guard of every environment state
 abbrev pub always : List (ℕ × ℕ × ℕ) → List (ℕ × ℕ × ℕ × ℕ)
-always rows = map (λ row. (row.0, 1, row.1, row.2)) rows
+always transitions = map (λ t. (t.0, 1, t.1, t.2)) transitions
 
 -- the numbers of a step are in range
 abbrev is_within : ℕ → ℕ × ℕ × ℕ × ℕ → Bool
 is_within states m = nat_lt m.0 states && nat_lt m.2 5 && nat_lt m.3 states
 
 -- the numbers of a machine over the floor are in range
-pub lists_within : (env : NamedEnv) (states : List (List ℕ)) (finals : List ℕ) (steps rows : List (ℕ × ℕ × ℕ × ℕ)) (n : ℕ) → env ≡ floor → length states ≡ n → steps ≡ rows
-    → (0 < n) × (n ≤ MAX_STATES) → All (λ b. b < n) finals → list_all (is_within n) rows ≡ true → AreInRange (length states) env.env.actions 0 finals steps
+pub lists_within : (env : NamedEnv) (states : List (List ℕ)) (finals : List ℕ) (steps transitions : List (ℕ × ℕ × ℕ × ℕ)) (n : ℕ) → env ≡ floor → length states ≡ n → steps ≡ transitions
+    → (0 < n) × (n ≤ MAX_STATES) → All (λ b. b < n) finals → list_all (is_within n) transitions ≡ true → AreInRange (length states) env.env.actions 0 finals steps
 unfolding floor
-lists_within env states finals steps rows n e l r many ends t = rw (e, l, r) (record { count = many; begins = many.0; stops = ends; moves = All-from_recursion (λ m. (m.0 < n) × (m.2 < 5) × (m.3 < n)) rows (each rows t) })
+lists_within env states finals steps transitions n e l r many ends t = rw (e, l, r) (record { count = many; begins = many.0; stops = ends; moves = All-from_recursion (λ m. (m.0 < n) × (m.2 < 5) × (m.3 < n)) transitions (each transitions t) })
   where
     each : (ms : List (ℕ × ℕ × ℕ × ℕ)) → list_all (is_within n) ms ≡ true → ByRecursion (λ m. (m.0 < n) × (m.2 < 5) × (m.3 < n)) ms
     each [] h = tt
@@ -40,10 +40,10 @@ each_in p (x ∷ xs) m t (inl e) = subst (λ y. p y ≡ true) (sym e) (and_parts
 each_in p (x ∷ xs) m t (inr i) = each_in p xs m (and_parts (p x) (list_all p xs) t).1 i
 
 -- the behaviour over the floor from a table
-over_floor : (env : NamedEnv) (states : List (List ℕ)) (finals : List ℕ) (steps rows : List (ℕ × ℕ × ℕ × ℕ)) (n : ℕ) → env ≡ floor → length states ≡ n → steps ≡ rows
-    → normal_beh env.env.states env.env.actions (listed_beh (length states) 0 finals steps) ≡ normal_beh 1 5 (listed_beh n 0 finals rows)
+over_floor : (env : NamedEnv) (states : List (List ℕ)) (finals : List ℕ) (steps transitions : List (ℕ × ℕ × ℕ × ℕ)) (n : ℕ) → env ≡ floor → length states ≡ n → steps ≡ transitions
+    → normal_beh env.env.states env.env.actions (listed_beh (length states) 0 finals steps) ≡ normal_beh 1 5 (listed_beh n 0 finals transitions)
 unfolding floor
-over_floor env states finals steps rows n e l r = rw (e, l, r) refl
+over_floor env states finals steps transitions n e l r = rw (e, l, r) refl
 
 -- ---- the worker
 
@@ -51,7 +51,7 @@ over_floor env states finals steps rows n e l r = rw (e, l, r) refl
 pub worker_is : (env : NamedEnv) (name : List ℕ) (states : List (List ℕ)) (steps : List (ℕ × ℕ × ℕ × ℕ)) → env ≡ floor → name ≡ codes "worker" → states ≡ worker_states → steps ≡ always WORKER_STEPS
     → named_beh env name states 0 (0 ∷ 2 ∷ []) steps ≡ worker
 unfolding floor worker states_below
-worker_is env name states steps e n s rows = rw (e, n, s, rows) refl
+worker_is env name states steps e n s transitions = rw (e, n, s, transitions) refl
 
 -- ---- the target
 
@@ -65,8 +65,8 @@ one_to beh b e a b' all t = grind (arith, any_true, each_in, eqb-true, from_norm
 -- the shift is deterministic, since each of its actions leads to one state
 pub shift_single : (env : NamedEnv) (states : List (List ℕ)) (steps : List (ℕ × ℕ × ℕ × ℕ)) → env ≡ floor → states ≡ shift_states → steps ≡ always SHIFT_STEPS
     → IsDeterministic (normal_beh env.env.states env.env.actions (listed_beh (length states) 0 (0 ∷ []) steps))
-shift_single env states steps e s rows =
-    subst IsDeterministic (sym (over_floor env states (0 ∷ []) steps (always SHIFT_STEPS) 4 e (ap length s) rows)) (λ b e a b1 b2 h1 h2.
+shift_single env states steps e s transitions =
+    subst IsDeterministic (sym (over_floor env states (0 ∷ []) steps (always SHIFT_STEPS) 4 e (ap length s) transitions)) (λ b e a b1 b2 h1 h2.
     let beh = listed_beh 4 0 (0 ∷ []) (always SHIFT_STEPS) in
     one_to beh b e a b1 refl h1 ∙ sym (one_to beh b e a b2 refl h2))
 
@@ -74,7 +74,7 @@ shift_single env states steps e s rows =
 pub shift_is : (env : NamedEnv) (states : List (List ℕ)) (steps : List (ℕ × ℕ × ℕ × ℕ)) → env ≡ floor → states ≡ shift_states → steps ≡ always SHIFT_STEPS
     → named_target env states 0 (0 ∷ []) steps ≡ shift
 unfolding floor shift states_below
-shift_is env states steps e s rows = rw (e, s, rows) refl
+shift_is env states steps e s transitions = rw (e, s, transitions) refl
 
 -- ---- the services
 

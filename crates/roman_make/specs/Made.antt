@@ -13,8 +13,8 @@ abbrev pub number_in : List (List ℕ) → List ℕ → ℕ
 number_in names name = unwrap_or (place_of names name) (length names)
 
 -- a transition of a table: from a state, by an action, to a state
-abbrev pub Row : Type 0
-Row = List ℕ × List ℕ × List ℕ
+abbrev pub Transition : Type 0
+Transition = List ℕ × List ℕ × List ℕ
 
 -- ---- the environment
 
@@ -39,21 +39,21 @@ floor = record {
 }
 
 -- a transition of a table as a step, with the guard of every environment state
-abbrev pub move_in : List (List ℕ) → Row → Move
-move_in states row = record {
-  from = number_in states row.0;
+abbrev pub move_in : List (List ℕ) → Transition → Move
+move_in states transition = record {
+  from = number_in states transition.0;
   guard = below 1;
-  action = number_in floor_actions row.1;
-  to = number_in states row.2;
+  action = number_in floor_actions transition.1;
+  to = number_in states transition.2;
 }
 
 -- a behaviour over the floor with its states, the first of which is the start, its final states and its transitions
-abbrev pub machine : List (List ℕ) → List (List ℕ) → List Row → Beh
-machine states finals rows = normal_beh 1 5 (record {
+abbrev pub machine : List (List ℕ) → List (List ℕ) → List Transition → Beh
+machine states finals transitions = normal_beh 1 5 (record {
   states = length states;
   start = 0;
   finals = map (number_in states) finals;
-  steps = map (move_in states) rows;
+  steps = map (move_in states) transitions;
 })
 
 -- ---- the workers
@@ -63,8 +63,8 @@ abbrev pub worker_states : List (List ℕ)
 worker_states = codes "idle" ∷ codes "busy" ∷ codes "worn" ∷ []
 
 -- the transitions of a worker, who becomes idle or worn when stopped
-abbrev pub worker_rows : List Row
-worker_rows =
+abbrev pub worker_transitions : List Transition
+worker_transitions =
     (codes "idle", codes "start", codes "busy") ∷
     (codes "busy", codes "stop", codes "idle") ∷
     (codes "busy", codes "stop", codes "worn") ∷
@@ -81,7 +81,7 @@ worker = record {
   states = worker_states;
   env_states = 1;
   actions = 5;
-  beh = machine worker_states (codes "idle" ∷ codes "worn" ∷ []) worker_rows;
+  beh = machine worker_states (codes "idle" ∷ codes "worn" ∷ []) worker_transitions;
 }
 
 -- the names of the workers
@@ -100,8 +100,8 @@ abbrev pub shift_states : List (List ℕ)
 shift_states = codes "rest" ∷ codes "work" ∷ codes "tidy" ∷ codes "pause" ∷ []
 
 -- the transitions of the target: a shift starts, may pause, stops, and is tidied up
-abbrev pub shift_rows : List Row
-shift_rows =
+abbrev pub shift_transitions : List Transition
+shift_transitions =
     (codes "rest", codes "start", codes "work") ∷
     (codes "work", codes "stop", codes "tidy") ∷
     (codes "tidy", codes "mend", codes "rest") ∷
@@ -115,7 +115,7 @@ shift = record {
   states = shift_states;
   env_states = 1;
   actions = 5;
-  beh = machine shift_states (codes "rest" ∷ []) shift_rows;
+  beh = machine shift_states (codes "rest" ∷ []) shift_transitions;
 }
 
 -- ---- the system

@@ -21,7 +21,7 @@ fn push_triples(steps: &mut Vec<Triple>, e: u8, n: u8, next: &[u8]) -> Result<()
 }
 
 /// Appends the steps from `e`.
-fn push_row(
+fn push_state(
     steps: &mut Vec<Triple>,
     env: &Environment,
     requests: &[Request],
@@ -50,7 +50,7 @@ fn triples_of(
 {
     let mut steps = Vec::new(alloc);
     for e in 0..env.states().len() as u8 {
-        push_row(&mut steps, env, requests, e)?;
+        push_state(&mut steps, env, requests, e)?;
     }
     Ok(steps)
 }

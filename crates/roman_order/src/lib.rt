@@ -1,5 +1,5 @@
 //! The removal list of a system's pairs. An [`Order`] also keeps the pairs that aren't listed, as
-//! one word for each row, marks, and, after [`Order::place_all`], each pair's place in the list.
+//! one word for each row, marks, and, after [`Order::stamp_all`], each pair's place in the list.
 //!
 //! Pairs lie in rows of up to 64 neighbours: pair p is lane `p % lanes` of row `p / lanes`.
 //! [`Order::build`] and a copy reserve all tables at once; no other call allocates memory. A table

@@ -48,7 +48,7 @@ pub struct Order {
     // the place of each batch's first entry
     firsts: Vec<u32>,
     waiting: Vec<Batch>,
-    // each pair's place in the list, or `u32::MAX`; empty unless `place_all` has filled it
+    // each pair's place in the list, or `u32::MAX`; empty unless `stamp_all` has filled it
     stamps: Vec<u32>,
     // a word for each row, with the bits of its pairs that aren't listed
     words: Vec<u64>,
@@ -134,7 +134,7 @@ impl Order {
     }
 
     /// Makes an equal order with its own tables and the same room, in one pass over the contents of
-    /// the tables. Doesn't copy the places that [`place_all`](Order::place_all) made.
+    /// the tables. Doesn't copy the places that [`stamp_all`](Order::stamp_all) made.
     ///
     /// Fails only when out of memory.
     pub fn copy(&self, alloc: Global) -> Result<Order, AllocError>

@@ -3,7 +3,7 @@
 -- The normal form has the same steps, and its numbers are in range.
 pub use Rattle.roman_parts.proofs.NormalLemmas.{IsOver-start, IsOver-states, from_normal_move, from_normal_triple, has_move-normal, has_triple-normal, is_final-normal}
 -- Lists of three and four items, and lists of steps that are read item by item.
-pub use Rattle.roman_parts.proofs.RowLemmas.{slice_range-append}
+pub use Rattle.roman_parts.proofs.PieceLemmas.{slice_range-append}
 pub use Rattle.roman_parts.proofs.StepLemmas.{items}
 -- A number below a bound is kept by a filter exactly when it passes the test.
 pub use Rattle.roman_parts.proofs.TableLemmas.{has_filter, states_below-filter}

@@ -48,15 +48,15 @@ pub use Rattle.roman_parts.specs.Guards.{among_of, each_guard, no_guard, operato
 unfoldable pub use Rattle.roman_parts.specs.Guards.{guard_of, guards_of}
 pub use Rattle.roman_parts.specs.Listed.{AreInRange, AreMoves, AreTriples, IsCountUpTo, guarded_beh, listed_beh, listed_env, move_of, triple_of}
 pub use Rattle.roman_parts.specs.Lists.{finals_of}
-unfoldable pub use Rattle.roman_parts.specs.Lists.{name_step, names_of, place_in, start_of}
+unfoldable pub use Rattle.roman_parts.specs.Lists.{names_of, place_in, start_of, with_name_read}
 pub use Rattle.roman_parts.specs.Named.{IsBehaviour, IsOver, IsTarget, NamedBeh, NamedEnv, NamedTarget}
 pub use Rattle.roman_parts.specs.Parts.{name_of}
 unfoldable pub use Rattle.roman_parts.specs.Parts.{behaviour_of, environment_of, target_of}
 pub use Rattle.roman_parts.specs.Reading.{check, found, items_at, looked}
 unfoldable pub use Rattle.roman_parts.specs.Reading.{counted_items}
-pub use Rattle.roman_parts.specs.Rows.{IsCut, pieces}
+pub use Rattle.roman_parts.specs.Pieces.{IsCut, pieces}
 pub use Rattle.roman_parts.specs.Steps.{four_of, move_item, moves_of, three_of, triple_item, triples_of}
-pub use Rattle.roman_parts.specs.Tables.{HasGuardedRows, HasRows, automaton_of, row_has}
+pub use Rattle.roman_parts.specs.Tables.{HasGuardedLists, HasStateLists, automaton_of, list_has}
 pub use Rattle.roman_parts.specs.declared.cells.Cells.{Cells}
 pub use Rattle.roman_parts.specs.declared.error.List.TheVariants.{Finals, Steps}
 pub use Rattle.roman_parts.specs.declared.error.PartError.{PartError}

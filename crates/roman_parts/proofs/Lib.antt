@@ -1,4 +1,4 @@
-mod RowLemmas
+mod PieceLemmas
 mod SetLemmas
 mod CellLemmas
 pub mod Common

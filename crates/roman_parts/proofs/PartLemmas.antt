@@ -1,5 +1,5 @@
 -- The value of a document that is read as a part is well formed.
-use Rattle.roman_parts.proofs.Common.{◌≡◌, ℕ, ◌+◌, ◌<◌, ◌≤◌, Bool, List, [], length, Option, Some, None, is_some, Ok, IsTrue, refl, sym, ap, ◌∙◌, subst, arith, length-append, is_none, codes, and_parts, Data, Items, no_items, item, as_object, IsIn, normal_env, Beh, Move, IsEnv, Triple, MAX_STATES, MAX_ACTIONS, each_item, any_from, choice_of, single_of, name_step, place_in, names_of, start_of, finals_of, NamedEnv, NamedBeh, NamedTarget, IsBehaviour, IsTarget, position_or_len, bytes_eq, position-Some, bytes_eq-Decides, items_len, place_of, Kind, same_ok, bind_ok, place_of-present, environment_of, name_of, behaviour_of, target_of, found, check, items_at, counted_items, triples_of, moves_of}
+use Rattle.roman_parts.proofs.Common.{◌≡◌, ℕ, ◌+◌, ◌<◌, ◌≤◌, Bool, List, [], length, Option, Some, None, is_some, Ok, IsTrue, refl, sym, ap, ◌∙◌, subst, arith, length-append, is_none, codes, and_parts, Data, Items, no_items, item, as_object, IsIn, normal_env, Beh, Move, IsEnv, Triple, MAX_STATES, MAX_ACTIONS, each_item, any_from, choice_of, single_of, with_name_read, place_in, names_of, start_of, finals_of, NamedEnv, NamedBeh, NamedTarget, IsBehaviour, IsTarget, position_or_len, bytes_eq, position-Some, bytes_eq-Decides, items_len, place_of, Kind, same_ok, bind_ok, place_of-present, environment_of, name_of, behaviour_of, target_of, found, check, items_at, counted_items, triples_of, moves_of}
 use Rattle.roman_read.specs.declared.rules.Kind.TheVariants as kind
 use Rattle.roman_parts.specs.declared.error.List.{List as Place}
 use Rattle.roman_parts.specs.declared.error.List.TheVariants as list
@@ -29,15 +29,15 @@ pub counted_are : (list : Place) (member : List ℕ) (least most : ℕ) (d : Dat
 unfolding counted_items
 counted_are list member least most d items h = grind (arith, and_parts, bind_ok, check_is)
 
-name_grows : (list : Place) (i : ℕ) (names : List (List ℕ)) (d : Data) (out : List (List ℕ)) → name_step list i names d ≡ Ok out → length out ≡ length names + 1
-unfolding name_step
+name_grows : (list : Place) (i : ℕ) (names : List (List ℕ)) (d : Data) (out : List (List ℕ)) → with_name_read list i names d ≡ Ok out → length out ≡ length names + 1
+unfolding with_name_read
 name_grows list i names d out h = grind (arith, bind_ok, check_is, length-append)
 
-names_grow : (list : Place) (i : ℕ) (names : List (List ℕ)) (items : Items) (out : List (List ℕ)) → each_item (name_step list) i names items ≡ Ok out → length out ≡ length names + items_len items
+names_grow : (list : Place) (i : ℕ) (names : List (List ℕ)) (items : Items) (out : List (List ℕ)) → each_item (with_name_read list) i names items ≡ Ok out → length out ≡ length names + items_len items
 unfolding each_item
 names_grow list i names no_items out h = let e : length names ≡ length out = ap length (same_ok names out h) in omega arith
 names_grow list i names (item d ds) out h =
-    let (more, e, h1) = bind_ok (name_step list i names d) _ out h in
+    let (more, e, h1) = bind_ok (with_name_read list i names d) _ out h in
     let one = name_grows list i names d more e in
     let rest = names_grow list (i + 1) more ds out h1 in
     omega arith

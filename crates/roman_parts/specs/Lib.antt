@@ -1,6 +1,6 @@
 pub mod Named
 pub mod Listed
-pub mod Rows
+pub mod Pieces
 pub mod Cells
 pub mod Tables
 pub mod Reading

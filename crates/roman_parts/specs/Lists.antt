@@ -16,9 +16,9 @@ name_in list i d = do
   text ← looked list i (text_of d)
   check (is_name text) kind.BadName list i text
 
--- the step that reads the next item of a list of names, and appends it
-unfoldable pub name_step : Place → ℕ → List (List ℕ) → Data → Result (List (List ℕ)) PartError
-name_step list i names d = do
+-- the names before item i of a list of names, with the name in item i
+unfoldable pub with_name_read : Place → ℕ → List (List ℕ) → Data → Result (List (List ℕ)) PartError
+with_name_read list i names d = do
   name ← name_in list i d
   check (is_none (place_of names name)) kind.Repeated list i (names ++ name ∷ [])
 
@@ -26,7 +26,7 @@ name_step list i names d = do
 unfoldable pub names_of : Place → List ℕ → ℕ → Data → Result (List (List ℕ)) PartError
 names_of list member most d = do
   items ← counted_items list member 1 most d
-  each_item (name_step list) 0 [] items
+  each_item (with_name_read list) 0 [] items
 
 -- the place of a text in a list of names
 unfoldable pub place_in : List (List ℕ) → Place → ℕ → Data → Result ℕ PartError

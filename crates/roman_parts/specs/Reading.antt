@@ -1,4 +1,4 @@
--- Readings of a part that may be refused. Each refusal states its place.
+-- Readings of a part that may be refused. Each refusal names the list and the item.
 use Rattle.std.specs.Prelude.{◌≡◌, ℕ, ◌&&◌, Bool, List, Option, Result, Ok, Err, nat_le, if◌then◌else◌}
 use Rattle.std.specs.Option.{ok_or}
 use Rattle.serde_json.specs.Data.{Data, Items}
@@ -13,7 +13,7 @@ use Rattle.roman_parts.specs.declared.error.List.{List as Place}
 use Rattle.roman_parts.specs.declared.error.PartError.{PartError}
 use Rattle.roman_parts.specs.declared.error.PartError.TheVariants.{Refused, Memory}
 
--- the value that a look-up finds, or the refusal of its miss, with the place
+-- the value that a look-up finds, or the refusal of its miss, with the list and the item
 abbrev pub looked : {X : Type 0} → Place → ℕ → Result X Miss → Result X PartError
 looked list i (Ok x) = Ok x
 looked list i (Err miss) = Err (Refused (kind_of miss) list i)

@@ -1,4 +1,4 @@
--- Tables with one row for each cell, which hold the steps of a record.
+-- Tables with one list for each cell, which hold the steps of a record.
 use Rattle.std.specs.Prelude.{◌≡◌, ℕ, ◌+◌, ◌*◌, ◌<◌, ◌≤◌, ◌&&◌, not, Bool, List, [], ◌∷◌, length, MatchOption, Option, Some, slice_get, slice_index_or}
 use Rattle.roman_model.specs.Lists.{is_empty}
 use Rattle.roman_model.specs.System.{Env, Beh, has, IsEnv, IsDeterministic, is_final}
@@ -8,12 +8,12 @@ use Rattle.roman_model.specs.declared.limits.TheConstants.{MAX_STATES, MAX_ACTIO
 use Rattle.roman_guard.specs.Meaning.{has_state}
 use Rattle.roman_parts.specs.Named.{IsOver}
 
--- the row of k and action a has state n
-abbrev pub row_has : ℕ → List (List ℕ) → ℕ → ℕ → ℕ → Bool
-row_has actions rows k a n = has (slice_index_or rows (k * actions + a) []) n
+-- the list of k and action a has state n
+abbrev pub list_has : ℕ → List (List ℕ) → ℕ → ℕ → ℕ → Bool
+list_has actions lists k a n = has (slice_index_or lists (k * actions + a) []) n
 
--- the environment's numbers are in range, and the rows have its next and previous states
-pub record HasRows (env : Env) (to from : List (List ℕ)) : Type 0 where
+-- the environment's numbers are in range, and the lists have its next and previous states
+pub record HasStateLists (env : Env) (to from : List (List ℕ)) : Type 0 where
   pub known : IsEnv env
   pub next : (e a : ℕ) → e < env.states → a < env.actions → slice_get to (e * env.actions + a) ≡ Some (env_next env e a)
   pub prev : (e' a : ℕ) → e' < env.states → a < env.actions → slice_get from (e' * env.actions + a) ≡ Some (env_prev env e' a)
@@ -32,16 +32,16 @@ pub record GuardedBeh : Type 0 where
   pub actions : ℕ
   pub beh : Beh
 
--- the automaton with the final states of the mask and the steps of the rows, rising
+-- the automaton with the final states of the mask and the steps of the lists, rising
 abbrev pub automaton_of : ℕ → ℕ → ℕ → ℕ → ℕ → List (List ℕ) → GuardedBeh
-automaton_of states env_states actions start mask rows = record {
+automaton_of states env_states actions start mask lists = record {
   env_states = env_states;
   actions = actions;
-  beh = beh_from env_states actions states start (has_state mask) (λ b e a b'. row_has actions rows (b * env_states + e) a b');
+  beh = beh_from env_states actions states start (has_state mask) (λ b e a b'. list_has actions lists (b * env_states + e) a b');
 }
 
--- the behaviour's numbers are in range, the mask has its final states, and the rows, one for each cell, have its next and previous states
-pub record HasGuardedRows (g : GuardedBeh) (mask : ℕ) (to from : List (List ℕ)) : Type 0 where
+-- the behaviour's numbers are in range, the mask has its final states, and the lists, one for each cell, have its next and previous states
+pub record HasGuardedLists (g : GuardedBeh) (mask : ℕ) (to from : List (List ℕ)) : Type 0 where
   pub env_states : (0 < g.env_states) × (g.env_states ≤ MAX_STATES)
   pub actions : (0 < g.actions) × (g.actions ≤ MAX_ACTIONS)
   pub start : g.beh.start < g.beh.states

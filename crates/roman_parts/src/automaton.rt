@@ -8,7 +8,7 @@ ghost use Rattle.roman_parts.specs.Named.{IsOver};
 
 use crate::cells::Cells;
 use crate::masks::move_masks;
-use crate::rows::Rows;
+use crate::state_lists::StateLists;
 use crate::steps::Move;
 use roman_model::{MAX_ACTIONS, MAX_STATES};
 use std::alloc::{AllocError, Global};
@@ -22,20 +22,20 @@ pub(crate) struct Automaton {
     start: u8,
     // Bit b is set if b is a final state.
     finals: u64,
-    // The rows for state b, environment state e and action a: the states to which the steps go, and
+    // The lists of state b, environment state e and action a: the states to which the steps go, and
     // the states from which they go to b.
-    next: Rows,
-    prev: Rows,
+    next: StateLists,
+    prev: StateLists,
 }
 
 impl Model for Automaton {
-    ghost use Rattle.roman_parts.specs.Tables.{GuardedBeh, automaton_of, HasGuardedRows};
+    ghost use Rattle.roman_parts.specs.Tables.{GuardedBeh, automaton_of, HasGuardedLists};
 
     ghost Value = { GuardedBeh };
 
     ghost view = { λ s. automaton_of s.cells.states s.cells.env_states s.cells.actions s.start s.finals s.next };
 
-    ghost invariant = { λ s. HasGuardedRows
+    ghost invariant = { λ s. HasGuardedLists
         (automaton_of s.cells.states s.cells.env_states s.cells.actions s.start s.finals s.next)
         s.finals s.next s.prev };
 }
@@ -54,8 +54,8 @@ impl Automaton {
         requires lists { AreInRange cells.states cells.actions start finals.now steps.now }
         ensures { IfOk result (λ made. made ≡ guarded_beh cells start finals.now steps.now) }
     {
-        let next = Rows::of_masks(alloc, &move_masks::<false>(alloc, cells, steps)?)?;
-        let prev = Rows::of_masks(alloc, &move_masks::<true>(alloc, cells, steps)?)?;
+        let next = StateLists::of_masks(alloc, &move_masks::<false>(alloc, cells, steps)?)?;
+        let prev = StateLists::of_masks(alloc, &move_masks::<true>(alloc, cells, steps)?)?;
         Ok(Automaton {
             cells,
             start,
@@ -107,7 +107,7 @@ impl Automaton {
         ensures next { result.now ≡ beh_next self.now.beh b e a }
         ensures below { All (λ to. to < self.now.beh.states) result.now }
     {
-        self.next.row(self.cells.at(b, e, a))
+        self.next.list(self.cells.at(b, e, a))
     }
 
     /// Returns the states from which action `a` goes to state `b` in environment state `e`, rising.
@@ -119,7 +119,7 @@ impl Automaton {
         ensures prev { result.now ≡ beh_prev self.now.beh b e a }
         ensures below { All (λ from. from < self.now.beh.states) result.now }
     {
-        self.prev.row(self.cells.at(b, e, a))
+        self.prev.list(self.cells.at(b, e, a))
     }
 }
 

@@ -5,7 +5,7 @@ ghost use Rattle.roman_model.specs.SystemArena.{env_next, env_prev};
 ghost use Rattle.roman_parts.specs.Listed.{named_env, AreTriples, IsCountUpTo};
 
 use crate::masks::triple_masks;
-use crate::rows::Rows;
+use crate::state_lists::StateLists;
 use crate::steps::Triple;
 use roman_model::{MAX_ACTIONS, MAX_STATES};
 use roman_read::NameTable;
@@ -21,10 +21,10 @@ pub struct Environment {
     states: NameTable,
     actions: NameTable,
     start: u8,
-    // The rows for state e and action a: the states to which it leads, and the states from which it
+    // The lists of state e and action a: the states to which it leads, and the states from which it
     // leads to e.
-    next: Rows,
-    prev: Rows,
+    next: StateLists,
+    prev: StateLists,
 }
 
 // One proof step. A derived drop is a step for each vector, at each exit of a function that owns it.
@@ -43,7 +43,7 @@ impl Drop for Environment {
 impl Model for Environment {
     ghost use Rattle.std.specs.Prelude.{length};
     ghost use Rattle.roman_parts.specs.Named.{NamedEnv};
-    ghost use Rattle.roman_parts.specs.Tables.{row_has, HasRows};
+    ghost use Rattle.roman_parts.specs.Tables.{list_has, HasStateLists};
     ghost use Rattle.roman_model.specs.Made.{env_from};
 
     ghost Value = { NamedEnv };
@@ -51,11 +51,11 @@ impl Model for Environment {
     ghost view = { λ s. record {
       states = s.states;
       actions = s.actions;
-      env = env_from (length s.states) (length s.actions) s.start (row_has (length s.actions) s.next);
+      env = env_from (length s.states) (length s.actions) s.start (list_has (length s.actions) s.next);
     } };
 
-    ghost invariant = { λ s. HasRows
-        (env_from (length s.states) (length s.actions) s.start (row_has (length s.actions) s.next)) s.next s.prev };
+    ghost invariant = { λ s. HasStateLists
+        (env_from (length s.states) (length s.actions) s.start (list_has (length s.actions) s.next)) s.next s.prev };
 }
 
 impl Environment {
@@ -77,8 +77,14 @@ impl Environment {
     {
         let height = states.len() as usize;
         let width = actions.len() as usize;
-        let next = Rows::of_masks(alloc, &triple_masks::<false>(alloc, height, width, steps)?)?;
-        let prev = Rows::of_masks(alloc, &triple_masks::<true>(alloc, height, width, steps)?)?;
+        let next = StateLists::of_masks(
+            alloc,
+            &triple_masks::<false>(alloc, height, width, steps)?,
+        )?;
+        let prev = StateLists::of_masks(
+            alloc,
+            &triple_masks::<true>(alloc, height, width, steps)?,
+        )?;
         Ok(Environment {
             states,
             actions,
@@ -143,7 +149,7 @@ impl Environment {
         ensures below { All (λ to. to < self.now.env.states) result.now }
     {
         let width = self.actions.len() as usize;
-        self.next.row(e as usize * width + a as usize)
+        self.next.list(e as usize * width + a as usize)
     }
 
     /// Returns the states from which action `a` leads to state `e`, rising and without repeats.
@@ -155,6 +161,6 @@ impl Environment {
         ensures below { All (λ from. from < self.now.env.states) result.now }
     {
         let width = self.actions.len() as usize;
-        self.prev.row(e as usize * width + a as usize)
+        self.prev.list(e as usize * width + a as usize)
     }
 }

@@ -17,7 +17,7 @@ mod masks;
 mod names;
 mod parts;
 mod reading;
-mod rows;
+mod state_lists;
 mod steps;
 mod target;
 

@@ -8,11 +8,11 @@ abbrev pub ◌>>=◌ : {X Y E : Type 0} → Result X E → (X → Result Y E) �
 Ok x >>= f = f x
 Err e >>= f = Err e
 
--- the step for each item in order, from item i and the state s on
+-- the reading of each item in order, from item i and the state s on
 unfoldable pub each_item : {S E : Type 0} → (ℕ → S → Data → Result S E) → ℕ → S → Items → Result S E
-each_item step i s no_items = Ok s
-each_item step i s (item d ds) = step i s d >>= (λ t. each_item step (i + 1) t ds)
+each_item read i s no_items = Ok s
+each_item read i s (item d ds) = read i s d >>= (λ t. each_item read (i + 1) t ds)
 
--- the step that reads an item and appends its value to those read before
+-- the reading of an item, whose value is appended to those read before
 unfoldable pub pushing : {X E : Type 0} → (ℕ → Data → Result X E) → ℕ → List X → Data → Result (List X) E
 pushing read i xs d = read i d >>= (λ x. Ok (xs ++ x ∷ []))

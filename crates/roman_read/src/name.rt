@@ -82,24 +82,24 @@ impl Name {
 }
 
 /// Returns whether a name may have this byte.
-fn is_part(byte: u8) -> bool
+fn is_name_byte(byte: u8) -> bool
     ensures { result ≡ is_name_byte byte }
 {
     byte.is_ascii_alphanumeric() || byte == b'_' || byte == b'-'
 }
 
 /// Returns whether a name may have each of these bytes.
-fn are_parts(bytes: &[u8]) -> bool
+fn are_name_bytes(bytes: &[u8]) -> bool
     ensures { result ≡ list_all is_name_byte bytes.now }
 {
-    bytes.iter().all(|&byte| is_part(byte))
+    bytes.iter().all(|&byte| is_name_byte(byte))
 }
 
 /// Returns whether the bytes are a name.
 fn is_word(bytes: &[u8]) -> bool
     ensures { result ≡ is_name bytes.now }
 {
-    !bytes.is_empty() && bytes.len() <= LONGEST && are_parts(bytes)
+    !bytes.is_empty() && bytes.len() <= LONGEST && are_name_bytes(bytes)
 }
 
 /// Returns the bytes, padded with zeros to the greatest length of a name.

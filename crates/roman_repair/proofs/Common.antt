@@ -50,10 +50,10 @@ pub use Rattle.roman_rules.specs.Probes.{IsReasonOf, readings_of_reason}
 pub use Rattle.roman_rules.specs.Numbered.{IsNumbered}
 pub use Rattle.roman_repair.specs.Alone.{AreKept, IsSeatOf, MayProbeAlone, passes, probes_of, without_seat}
 pub use Rattle.roman_repair.specs.BandProbes.{HoldsInBand, IsKnown}
-pub use Rattle.roman_repair.specs.Deaths.{AreInPart, IsPart, IsWithin, Renames, entries_from, list_with}
+pub use Rattle.roman_repair.specs.Deaths.{AreInGroup, IsGroup, IsWithin, Renames, entries_from, list_with}
 pub use Rattle.roman_repair.specs.Growing.{CanGrow, CanReadmit, HasReplayedAll, IsGrown, entries_grown, list_grown, replay_grown}
 pub use Rattle.roman_repair.specs.Judging.{CanReplay, CanReplayBatch, GoesOnTo, HasJudged, HasJudgedFront, Replays}
-pub use Rattle.roman_repair.specs.Lanes.{HasFront, HasLanesBetween, IsCutAt, IsFirstPart, IsSpread}
+pub use Rattle.roman_repair.specs.Lanes.{HasFront, HasLanesBetween, IsCutAt, IsFirstGroup, IsSpread}
 pub use Rattle.roman_repair.specs.Repairs.{IsBegun, IsRepaired, IsSettledOn}
 pub use Rattle.roman_repair.specs.Replays.{AreCandidates, AreSlices, candidates, is_possible, readings_of_entries, with_replay}
 pub use Rattle.roman_repair.specs.declared.band_probe.BandProbe.{BandProbe}

@@ -1,6 +1,6 @@
 -- The entries of a removal list after a death.
-use Rattle.roman_repair.proofs.Common.{in_sizes, map_same_in, map-map, list_any-map, length-below, left, count-without, sizes-left, number_without-is, from_map, ◌≡◌, ℕ, ◌+◌, ◌-◌, ◌*◌, ◌/◌, ◌%◌, ◌^◌, ◌<◌, ◌≤◌, Bool, true, false, not, ◌||◌, if◌then◌else◌, cond, List, [], ◌∷◌, ◌++◌, map, length, filter, remove, slice_index, IsFalse, inl, inr, refl, sym, ap, ◌∙◌, subst, arith, append-nil, append_assoc, bit_and, ◌==◌, cases_lt, both_ways, and_parts, eqb-true, false_from_ne_true, div-add-mod', mod_below, map-append, list_any-append, mul-le-mul_left, IsIn, HasNoRepeats, Seat, Sys, is_final, Entry, Sizes, sizes_of, sizes_without, count, pair_at, numbered, number, number_without, number_entry_without, first_numbers, Reason, is_on, HasLanes, on_and, lanes_of, NamedSys, system_of, lanes_in, Board, as_entry, pairs_of, has_entry, nodes_of, set_lanes, entries_in, in_lanes, lanes_once, IsShaped, list_with, entries_from, AreInPart, Renames, list_any, IsSizes, may_go, Die, CanChange, without, AreSizes-index}
-use Rattle.roman_repair.proofs.DeathParts.{part_number, part_state, part_place, row_of_left, moved_lanes}
+use Rattle.roman_repair.proofs.Common.{in_sizes, map_same_in, map-map, list_any-map, length-below, left, count-without, sizes-left, number_without-is, from_map, ◌≡◌, ℕ, ◌+◌, ◌-◌, ◌*◌, ◌/◌, ◌%◌, ◌^◌, ◌<◌, ◌≤◌, Bool, true, false, not, ◌||◌, if◌then◌else◌, cond, List, [], ◌∷◌, ◌++◌, map, length, filter, remove, slice_index, IsFalse, inl, inr, refl, sym, ap, ◌∙◌, subst, arith, append-nil, append_assoc, bit_and, ◌==◌, cases_lt, both_ways, and_parts, eqb-true, false_from_ne_true, div-add-mod', mod_below, map-append, list_any-append, mul-le-mul_left, IsIn, HasNoRepeats, Seat, Sys, is_final, Entry, Sizes, sizes_of, sizes_without, count, pair_at, numbered, number, number_without, number_entry_without, first_numbers, Reason, is_on, HasLanes, on_and, lanes_of, NamedSys, system_of, lanes_in, Board, as_entry, pairs_of, has_entry, nodes_of, set_lanes, entries_in, in_lanes, lanes_once, IsShaped, list_with, entries_from, AreInGroup, Renames, list_any, IsSizes, may_go, Die, CanChange, without, AreSizes-index}
+use Rattle.roman_repair.proofs.DeathGroups.{group_number, group_state, group_place, row_of_left, moved_lanes}
 use Rattle.roman_repair.proofs.Fronts.{filter_alike}
 
 -- The first entry for each number.
@@ -43,15 +43,15 @@ renames_front s k L M X old new parts is = record {
 pub renames_both : (s : Sys) (k : ℕ) (L M N old mid new : List (Entry ℕ)) → Renames s k L M old mid → Renames s k M N mid new → Renames s k L N old new
 renames_both s k L M N old mid new first second = record { list = λ seat seated. second.list seat seated ∙ first.list seat seated }
 
-part_goes : (n : Sizes) (k : ℕ) (seat : Seat) (first word : ℕ) (may : Bool) (reason : Reason) → AreInPart n k first word → may_go k seat (pair_at n first) ≡ may →
+group_goes : (n : Sizes) (k : ℕ) (seat : Seat) (first word : ℕ) (may : Bool) (reason : Reason) → AreInGroup n k first word → may_go k seat (pair_at n first) ≡ may →
     filter (λ x. may_go k seat (pair_at n x.node)) (entries_from first word reason) ≡ cond may (entries_from first word reason) []
-part_goes n k seat first word may reason is goes =
+group_goes n k seat first word may reason is goes =
     filter_alike (λ x. may_go k seat (pair_at n x.node)) may (entries_from first word reason) (λ x h.
     let (i, there, here) = from_map (λ i. as_entry (first + i, reason)) x (set_lanes word) h in
     let on = (in_lanes word i there).1 in
-    let (width, j, part, e, within) = is.part in
+    let (width, j, group, e, within) = is.group in
     let state = λ (p : ℕ). slice_index (pair_at n p).bs k in
-    let same : state x.node ≡ state first = ap (λ (y : Entry ℕ). state y.node) here ∙ ap (λ f. state (f + i)) e ∙ part_state n k width j i part (within i on) (subst (λ f. f + i < count n) e (is.pair i on)) is.seat ∙ sym (ap state e) in
+    let same : state x.node ≡ state first = ap (λ (y : Entry ℕ). state y.node) here ∙ ap (λ f. state (f + i)) e ∙ group_state n k width j i group (within i on) (subst (λ f. f + i < count n) e (is.pair i on)) is.seat ∙ sym (ap state e) in
     ap (λ b. not seat.rests || is_final seat.beh b) same ∙ goes)
 
 -- the seat may leave its state in a pair behind, or it may not
@@ -59,20 +59,20 @@ abbrev pub Goes : Sys → ℕ → ℕ → Bool → Type 0
 Goes s k p may = (seat : Seat) → CanChange (Die k seat) s → may_go k seat (pair_at (sizes_of s) p) ≡ may
 
 -- if the seat may not leave its state behind, no entry is renamed
-pub part_stays : (s : Sys) (k first word : ℕ) (reason : Reason) (L : List (Entry ℕ)) → AreInPart (sizes_of s) k first word → Goes s k first false → Renames s k (entries_from first word reason) [] L L
-part_stays s k first word reason L is goes = record {
-  list = λ seat seated. sym (ap (λ W. L ++ first_numbers (nodes_of L) (map (number_entry_without k (sizes_of s)) W)) (part_goes (sizes_of s) k seat first word false reason is (goes seat seated)));
+pub group_stays : (s : Sys) (k first word : ℕ) (reason : Reason) (L : List (Entry ℕ)) → AreInGroup (sizes_of s) k first word → Goes s k first false → Renames s k (entries_from first word reason) [] L L
+group_stays s k first word reason L is goes = record {
+  list = λ seat seated. sym (ap (λ W. L ++ first_numbers (nodes_of L) (map (number_entry_without k (sizes_of s)) W)) (group_goes (sizes_of s) k seat first word false reason is (goes seat seated)));
 }
 
 -- if the seat may leave its state behind, the renamed entries are those of lanes of one row, except for the listed ones
-pub part_left : (s : Sys) (k first word left lanes alive : ℕ) (reason : Reason) (L : List (Entry ℕ)) → AreInPart (sizes_of s) k first word → Goes s k first true →
+pub group_left : (s : Sys) (k first word left lanes alive : ℕ) (reason : Reason) (L : List (Entry ℕ)) → AreInGroup (sizes_of s) k first word → Goes s k first true →
     left ≡ number (sizes_without k (sizes_of s)) (without k (pair_at (sizes_of s) first)) → lanes ≡ lanes_of (remove (sizes_of s).seats k) → (0 < lanes) × (lanes ≤ 64) → HasLanes lanes (left / lanes) (λ p. not (has_entry L p)) alive →
     Renames s k (entries_from first word reason) [] L (L ++ entries_in lanes (left / lanes) (bit_and (word * 2 ^ (left % lanes) % 2 ^ 64) alive) reason)
-part_left s k first word left lanes alive reason L is goes number_is wide few rows =
+group_left s k first word left lanes alive reason L is goes number_is wide few rows =
     let f : ℕ → Entry ℕ = λ i. as_entry (left + i, reason) in
     let number_at : (i : ℕ) → is_on word i ≡ true → number_without k n (first + i) ≡ left + i = λ i on.
-    let (width, j, part, e, within) = is.part in
-    ap (λ p. number_without k n (p + i)) e ∙ part_number n k width j i part (within i on) ∙ ap (λ p. number_without k n p + i) (sym e) ∙ ap (λ p. p + i) (sym moved) in
+    let (width, j, group, e, within) = is.group in
+    ap (λ p. number_without k n (p + i)) e ∙ group_number n k width j i group (within i on) ∙ ap (λ p. number_without k n p + i) (sym e) ∙ ap (λ p. p + i) (sym moved) in
     record {
       list = λ seat seated. append-nil _ ∙ ap (λ M. L ++ M) (
           ap (map (λ lane. as_entry (left / lanes * lanes + lane, reason))) (moved_lanes word alive (left % lanes) new (omega (arith, mod_below left lanes few.0, few.1)) each)
@@ -80,7 +80,7 @@ part_left s k first word left lanes alive reason L is goes number_is wide few ro
           ∙ map_same_in (λ i. as_entry (left / lanes * lanes + (left % lanes + i), reason)) f (filter new (set_lanes word)) (λ i h. ap (λ p. as_entry (p, reason)) (place i))
           ∙ sym (first_apart f (λ i. has_entry L (left + i)) (nodes_of L) (set_lanes word) (λ i j e. omega (arith, e)) (lanes_once word) (λ i h. list_any-map (λ (x : Entry ℕ). x.node) (λ j. left + i == j) L))
           ∙ ap (first_numbers (nodes_of L)) (sym (
-          ap (map (number_entry_without k n)) (part_goes n k seat first word true reason is (goes seat seated))
+          ap (map (number_entry_without k n)) (group_goes n k seat first word true reason is (goes seat seated))
           ∙ map-map (number_entry_without k n) (λ i. as_entry (first + i, reason)) (set_lanes word)
           ∙ map_same_in (λ i. number_entry_without k n (as_entry (first + i, reason))) f (set_lanes word) (λ i h. ap (λ p. as_entry (p, reason)) (number_at i (in_lanes word i h).1)))));
     }
@@ -99,9 +99,9 @@ part_left s k first word left lanes alive reason L is goes number_is wide few ro
 
     each : (i : ℕ) → i < 64 → is_on word i ≡ true → (left % lanes + i < 64) × (is_on alive (left % lanes + i) ≡ new i)
     each i h on =
-        let (width, j, part, e, within) = is.part in
+        let (width, j, group, e, within) = is.group in
         let l = within i on in
-        let fits : left % lanes + width ≤ lanes = subst (λ q. q % lanes + width ≤ lanes) (sym (moved ∙ ap (number_without k n) e)) (part_place n k width j lanes part (omega (arith, l)) wide few.0) in
+        let fits : left % lanes + width ≤ lanes = subst (λ q. q % lanes + width ≤ lanes) (sym (moved ∙ ap (number_without k n) e)) (group_place n k width j lanes group (omega (arith, l)) wide few.0) in
         (omega (arith, fits, l, few.1), rows.each (left % lanes + i) (omega (arith, fits, l)) ∙ ap (λ p. not (has_entry L p)) (place i))
 
 -- the row of the renamed entries

@@ -1,5 +1,5 @@
 -- The lanes of words.
-use Rattle.roman_repair.proofs.Common.{on_in, one_pow, set_lanes-joined, none_below, on_lowered, no_lane, not-not, and-true, ◌≡◌, ◌≢◌, ℕ, zero, suc, ◌+◌, ◌-◌, ◌*◌, ◌/◌, ◌%◌, ◌^◌, ◌<◌, ◌≤◌, Bool, true, false, not, ◌&&◌, List, [], ◌∷◌, ◌++◌, map, length, filter, cond, inl, inr, refl, sym, ap, ap₂, ◌∙◌, arith, append-nil, append_assoc, bit_and, eqb, length-append, cases_Bool, cases_lt, both_ways, and_parts, eq-eqb, false_from_ne_true, and_right, ne_eqb, trailing_zeros, w64, bit_not, map-append, length-map, IsIn, below, filter_below_more, map-map, filter_same, from_below, is_on, on_and, on_full, on_not, on_zero, on_less, on_ones, on_ones_above, on_full_past, set_lanes, as_entry, entries_in, Reason, entries_from, pow-lt, and_le_l, bit_at-trailing_zeros, shr_and_one, HasFront, HasLanesBetween, IsCutAt, IsFirstPart}
+use Rattle.roman_repair.proofs.Common.{on_in, one_pow, set_lanes-joined, none_below, on_lowered, no_lane, not-not, and-true, ◌≡◌, ◌≢◌, ℕ, zero, suc, ◌+◌, ◌-◌, ◌*◌, ◌/◌, ◌%◌, ◌^◌, ◌<◌, ◌≤◌, Bool, true, false, not, ◌&&◌, List, [], ◌∷◌, ◌++◌, map, length, filter, cond, inl, inr, refl, sym, ap, ap₂, ◌∙◌, arith, append-nil, append_assoc, bit_and, eqb, length-append, cases_Bool, cases_lt, both_ways, and_parts, eq-eqb, false_from_ne_true, and_right, ne_eqb, trailing_zeros, w64, bit_not, map-append, length-map, IsIn, below, filter_below_more, map-map, filter_same, from_below, is_on, on_and, on_full, on_not, on_zero, on_less, on_ones, on_ones_above, on_full_past, set_lanes, as_entry, entries_in, Reason, entries_from, pow-lt, and_le_l, bit_at-trailing_zeros, shr_and_one, HasFront, HasLanesBetween, IsCutAt, IsFirstGroup}
 
 -- ---- the first lane of a word
 
@@ -128,28 +128,28 @@ held_front word held fits held_fits some one =
 pub other_front : (word held : ℕ) → word < 2 ^ 64 → 0 < length (set_lanes word) → bit_and (held / 2 ^ trailing_zeros w64 word) 1 ≢ 1 → IsFront word held (bit_and word held) false
 other_front word held fits some ne = alike_front word held held false fits some (on_read held _ ∙ ne_eqb _ 1 ne) (λ lane l off. off)
 
--- the lanes of a part, moved to its first one
-pub first_part_is : (word width i front rest cut : ℕ) → word < 2 ^ 64 → 0 < length (set_lanes word) → i * width ≤ trailing_zeros w64 word → trailing_zeros w64 word < i * width + width → cut ≤ i * width + width → cut ≤ 64 → trailing_zeros w64 word < cut →
-    IsCutAt word front rest cut → IsFirstPart word width i (front / 2 ^ (i * width)) rest
+-- the lanes of a group, moved to its first one
+pub first_group_is : (word width i front rest cut : ℕ) → word < 2 ^ 64 → 0 < length (set_lanes word) → i * width ≤ trailing_zeros w64 word → trailing_zeros w64 word < i * width + width → cut ≤ i * width + width → cut ≤ 64 → trailing_zeros w64 word < cut →
+    IsCutAt word front rest cut → IsFirstGroup word width i (front / 2 ^ (i * width)) rest
 unfolding set_lanes
-first_part_is word width i front rest cut fits some begun less end few here is =
+first_group_is word width i front rest cut fits some begun less end few here is =
     let t : ℕ = trailing_zeros w64 word in
     let begin : ℕ = i * width in
-    let part : ℕ = front / 2 ^ begin in
+    let group : ℕ = front / 2 ^ begin in
     let low : t < 64 = first_low word fits some in
-    let lowered : (lane : ℕ) → is_on part lane ≡ is_on front (begin + lane) = λ lane. on_lowered front begin lane in
-    let moved : set_lanes front ≡ map (λ lane. begin + lane) (set_lanes part) =
+    let lowered : (lane : ℕ) → is_on group lane ≡ is_on front (begin + lane) = λ lane. on_lowered front begin lane in
+    let moved : set_lanes front ≡ map (λ lane. begin + lane) (set_lanes group) =
     let whole : 64 ≡ begin + (64 - begin) = omega (arith, begun, low) in
     let turned : 64 ≡ 64 - begin + begin = omega (arith, begun, low) in
     ap (λ n. filter (is_on front) (below n)) whole
-    ∙ moved_so_far (is_on part) (is_on front) begin (64 - begin)
+    ∙ moved_so_far (is_on group) (is_on front) begin (64 - begin)
     (λ lane l. false_from_ne_true (is_on front lane) (λ on. omega (arith, l, begun, from_first word fits lane (is.in_front lane on)))) (λ lane l. sym (lowered lane))
-    ∙ ap (map (λ lane. begin + lane)) (sym (ap (λ n. filter (is_on part) (below n)) turned
-    ∙ only_so_far (is_on part) (64 - begin) begin (λ lane l. lowered (64 - begin + lane) ∙ is.high (begin + (64 - begin + lane)) (omega (arith, few, begun, low))))) in
+    ∙ ap (map (λ lane. begin + lane)) (sym (ap (λ n. filter (is_on group) (below n)) turned
+    ∙ only_so_far (is_on group) (64 - begin) begin (λ lane l. lowered (64 - begin + lane) ∙ is.high (begin + (64 - begin + lane)) (omega (arith, few, begun, low))))) in
     record {
       parts = is.parts ∙ ap (λ ls. ls ++ set_lanes rest) moved;
-      some = lane_some part (t - begin) (omega arith) (lowered (t - begin) ∙ ap (is_on front) (let place : begin + (t - begin) ≡ t = omega (arith, begun) in place) ∙ is.low t here ∙ (first_lane word fits).on low);
-      in_part = λ lane on. (let at : is_on front (begin + lane) ≡ true = sym (lowered lane) ∙ on in
+      some = lane_some group (t - begin) (omega arith) (lowered (t - begin) ∙ ap (is_on front) (let place : begin + (t - begin) ≡ t = omega (arith, begun) in place) ∙ is.low t here ∙ (first_lane word fits).on low);
+      in_group = λ lane on. (let at : is_on front (begin + lane) ≡ true = sym (lowered lane) ∙ on in
           (elim (cases_lt lane width) [ inl l ↦ l | inr past ↦ absurd (both_ways _ (is.high (begin + lane) (omega (arith, past, end))) at) ], is.in_front (begin + lane) at));
       in_rest = is.in_rest;
       fits = is.fits;
@@ -175,18 +175,18 @@ is_between begin end some few =
 
 -- ---- the entries of a word's lanes
 
--- the entries of a word's lanes are those of the first part, followed by those of the others
-pub part_entries : (n x word width i part rest : ℕ) (reason : Reason) → IsFirstPart word width i part rest → entries_in n x word reason ≡ entries_from (x * n + i * width) part reason ++ entries_in n x rest reason
-part_entries n x word width i part rest reason is =
+-- the entries of a word's lanes are those of the first group, followed by those of the others
+pub group_entries : (n x word width i group rest : ℕ) (reason : Reason) → IsFirstGroup word width i group rest → entries_in n x word reason ≡ entries_from (x * n + i * width) group reason ++ entries_in n x rest reason
+group_entries n x word width i group rest reason is =
     let place : (lane : ℕ) → x * n + (i * width + lane) ≡ x * n + i * width + lane = λ lane. omega arith in
     let f = λ (lane : ℕ). as_entry (x * n + lane, reason) in
-    ap (map f) is.parts ∙ map-append f (map (λ lane. i * width + lane) (set_lanes part)) (set_lanes rest)
-    ∙ ap (λ L. L ++ entries_in n x rest reason) (map-map f (λ lane. i * width + lane) (set_lanes part) ∙ (λ j. map (λ (lane : ℕ). as_entry (place lane j, reason)) (set_lanes part)))
+    ap (map f) is.parts ∙ map-append f (map (λ lane. i * width + lane) (set_lanes group)) (set_lanes rest)
+    ∙ ap (λ L. L ++ entries_in n x rest reason) (map-map f (λ lane. i * width + lane) (set_lanes group) ∙ (λ j. map (λ (lane : ℕ). as_entry (place lane j, reason)) (set_lanes group)))
 
-pub fewer_lanes : (word width i part rest : ℕ) → IsFirstPart word width i part rest → length (set_lanes rest) < length (set_lanes word)
-fewer_lanes word width i part rest is =
+pub fewer_lanes : (word width i group rest : ℕ) → IsFirstGroup word width i group rest → length (set_lanes rest) < length (set_lanes word)
+fewer_lanes word width i group rest is =
     let f = λ (lane : ℕ). i * width + lane in
-    omega (arith, ap length is.parts, length-append (map f (set_lanes part)) (set_lanes rest), length-map (set_lanes part) f, is.some)
+    omega (arith, ap length is.parts, length-append (map f (set_lanes group)) (set_lanes rest), length-map (set_lanes group) f, is.some)
 
 -- if all lanes of a word are below a bound, they are those that are found below it
 pub lanes_below : (word n : ℕ) → n ≤ 64 → ((lane : ℕ) → is_on word lane ≡ true → lane < n) → filter (is_on word) (below n) ≡ set_lanes word

@@ -1,9 +1,9 @@
--- The replay of a row's entries that stand for several pairs each, part by part.
-use Rattle.roman_repair.proofs.Common.{not-not, or-false, Bool, ◌≡◌, ℕ, zero, suc, ◌+◌, ◌-◌, ◌*◌, ◌/◌, ◌%◌, ◌<◌, ◌≤◌, true, false, ◌||◌, append-nil, List, [], ◌∷◌, ◌++◌, map, flat_map, filter, cond, sym, ap, ap₂, ◌∙◌, subst, arith, append_assoc, bit_or, not, ◌^◌, inl, inr, length, cases_lt, cases_eq, both_ways, filter_below_more, in_append_left, in_below, in_map, in_flat_map, from_below, bit_not, w64, on_not, on_or, mul-le-mul_left, below, IsIn, Arena, Entry, grown_numbers, Reason, is_on, as_entry, set_lanes, entries_in, Board, Batch, entries_at, IsBatch, AreSlices, candidates, with_replay, CanReplay, CanReplayBatch, GoesOnTo, Replays, flat_map-append, div-mul-add, CanGrow, HasReplayedAll, IsGrown, entries_grown, HasLanesBetween, IsFirstPart, IsSpread, BandProbe, Newcomer}
+-- The replay of a row's entries that stand for several pairs each, group by group.
+use Rattle.roman_repair.proofs.Common.{not-not, or-false, Bool, ◌≡◌, ℕ, zero, suc, ◌+◌, ◌-◌, ◌*◌, ◌/◌, ◌%◌, ◌<◌, ◌≤◌, true, false, ◌||◌, append-nil, List, [], ◌∷◌, ◌++◌, map, flat_map, filter, cond, sym, ap, ap₂, ◌∙◌, subst, arith, append_assoc, bit_or, not, ◌^◌, inl, inr, length, cases_lt, cases_eq, both_ways, filter_below_more, in_append_left, in_below, in_map, in_flat_map, from_below, bit_not, w64, on_not, on_or, mul-le-mul_left, below, IsIn, Arena, Entry, grown_numbers, Reason, is_on, as_entry, set_lanes, entries_in, Board, Batch, entries_at, IsBatch, AreSlices, candidates, with_replay, CanReplay, CanReplayBatch, GoesOnTo, Replays, flat_map-append, div-mul-add, CanGrow, HasReplayedAll, IsGrown, entries_grown, HasLanesBetween, IsFirstGroup, IsSpread, BandProbe, Newcomer}
 use Rattle.roman_repair.proofs.Waiting.{grown_by_one}
-use Rattle.roman_repair.proofs.Joined.{positive, grown_part}
+use Rattle.roman_repair.proofs.Joined.{positive, grown_group}
 use Rattle.roman_repair.proofs.Replayed.{replayed_on}
-use Rattle.roman_repair.proofs.Fronts.{filter_alike, filter_split, has_some, lanes_below, part_entries, some_in}
+use Rattle.roman_repair.proofs.Fronts.{filter_alike, filter_split, group_entries, has_some, lanes_below, some_in}
 
 -- ---- spread lanes
 
@@ -25,14 +25,14 @@ spread_list word spread lanes width few is =
         let next : suc m * width ≡ m * width + width = omega arith in
         grind (arith, filter_below_more, filter_split, flat_map-append, (ap (λ n. filter (is_on spread) (below n)) next), (blocks m (λ lane i l h. each lane i (omega (arith, l)) h)), (block m (is_on word m) (λ i h. each m i (omega arith) h)))
 
--- the first lane that isn't one of the word ends a group of neighbouring lanes of the word
+-- the first lane that isn't one of the word ends a stretch of neighbouring lanes of the word
 pub stretch_lanes : (word lane end : ℕ) → word < 2 ^ 64 → end ≤ 64 → ((l : ℕ) → lane ≤ l → l < end → is_on (bit_not w64 word) l ≡ false) → (l : ℕ) → lane ≤ l → l < end → is_on word l ≡ true
 stretch_lanes word lane end fits few off l past less = sym (not-not (is_on word l)) ∙ ap not (sym (on_not word l fits (omega (arith, less, few))) ∙ off l past less)
 
 pub stretch_some : (word lane end lanes : ℕ) → word < 2 ^ 64 → lanes ≤ 64 → lane < lanes → lane ≤ end → is_on word lane ≡ true → (end < lanes → is_on (bit_not w64 word) end ≡ true) → lane < end
 stretch_some word lane end lanes fits few less past here next = grind (arith, both_ways, cases_eq, (on_not word lane fits), next)
 
--- a group of neighbouring lanes is spread, together with the lanes after it that the word doesn't have
+-- a stretch of neighbouring lanes is spread, together with the lanes after it that the word doesn't have
 pub spread_more : (word spread block lane end next width : ℕ) → IsSpread word spread lane width → HasLanesBetween block (lane * width) (end * width) → lane ≤ end → end ≤ next → ((l : ℕ) → lane ≤ l → l < end → is_on word l ≡ true) → ((l : ℕ) → end ≤ l → l < next → is_on word l ≡ false) →
     IsSpread word (bit_or spread block) next width
 spread_more word spread block lane end next width is run less more on off = record {
@@ -46,7 +46,7 @@ spread_more word spread block lane end next width is run less more on off = reco
       on_or spread block bit ∙ ap₂ (λ a b. a || b) (is.past bit (omega (arith, far, over, above))) (run.high bit (omega (arith, far, above)));
 }
 
--- ---- parts of a row
+-- ---- groups of a row
 
 pub record IsSliced (n lanes states slices many : ℕ) : Type 0 where
   pub whole : n ≡ slices * states
@@ -56,7 +56,7 @@ pub record IsSliced (n lanes states slices many : ℕ) : Type 0 where
   pub few : slices ≤ 64
   pub fits : slices * states ≤ 64
 
--- the parts of a row, as they are computed
+-- the groups of a row, as they are computed
 pub sliced : (n lanes states row width : ℕ) → row ≡ n → width ≡ states → AreSlices n lanes states → 0 < n → n ≤ 64 → IsSliced n lanes states (row / width) (lanes / (row / width))
 sliced n lanes states row width same wide is some few =
     let (m, whole, d, parts) = is.slices in
@@ -75,16 +75,16 @@ same_slices row lanes same few = record { few = few; slices = (row, omega arith,
 pub grown_itself : (states lanes n : ℕ) (e : Batch) → states ≡ 1 → lanes ≡ n → entries_at n e ≡ flat_map (grown_numbers states) (entries_at lanes e)
 grown_itself states lanes n e one same = sym (ap (λ s. flat_map (grown_numbers s) (entries_at lanes e)) one ∙ grown_by_one (entries_at lanes e) ∙ ap (λ m. entries_at m e) same)
 
--- the entries for which those of the first part and of the others stand
-pub grown_first : (n lanes states slices many x word i part rest spread : ℕ) (reason : Reason) → IsSliced n lanes states slices many → IsFirstPart word slices i part rest → set_lanes spread ≡ spread_below part slices states →
+-- the entries for which those of the first group and of the others stand
+pub grown_first : (n lanes states slices many x word i group rest spread : ℕ) (reason : Reason) → IsSliced n lanes states slices many → IsFirstGroup word slices i group rest → set_lanes spread ≡ spread_below group slices states →
     flat_map (grown_numbers states) (entries_in lanes x word reason) ≡ entries_in n (x * many + i) spread reason ++ flat_map (grown_numbers states) (entries_in lanes x rest reason)
-grown_first n lanes states slices many x word i part rest spread reason is first wide =
+grown_first n lanes states slices many x word i group rest spread reason is first wide =
     grind (
       arith,
-      (part_entries lanes x word slices i part rest reason first),
+      (group_entries lanes x word slices i group rest reason first),
       (flat_map-append (grown_numbers states)),
-      (lanes_below part slices is.few (λ lane on. (first.in_part lane on).0)),
-      (grown_part n slices many states lanes x i spread reason (set_lanes part) is.whole is.parts),
+      (lanes_below group slices is.few (λ lane on. (first.in_group lane on).0)),
+      (grown_group n slices many states lanes x i spread reason (set_lanes group) is.whole is.parts),
     )
 
 -- a spread word has a lane if the word has one
@@ -95,13 +95,13 @@ spread_some word spread lanes width wide few within some is =
     has_some (set_lanes spread) (lane * width + 0) (subst (IsIn (lane * width + 0)) (sym (is ∙ ap (flat_map f) (lanes_below word lanes few within)))
     (in_flat_map f lane (lane * width + 0) (set_lanes word) i (in_map (λ i. lane * width + i) 0 (below width) (in_below width 0 wide))))
 
--- the row of the first part is one of the system
-pub grown_row : (nodes n lanes states slices many x word i part rest : ℕ) (reason : Reason) → IsSliced n lanes states slices many → IsFirstPart word slices i part rest → 0 < n → ((y : Entry ℕ) → IsIn y (flat_map (grown_numbers states) (entries_in lanes x word reason)) → y.node < nodes) →
+-- the row of the first group is one of the system
+pub grown_row : (nodes n lanes states slices many x word i group rest : ℕ) (reason : Reason) → IsSliced n lanes states slices many → IsFirstGroup word slices i group rest → 0 < n → ((y : Entry ℕ) → IsIn y (flat_map (grown_numbers states) (entries_in lanes x word reason)) → y.node < nodes) →
     x * many + i < nodes
-grown_row nodes n lanes states slices many x word i part rest reason is first wide all =
-    let (lane, j) = some_in (set_lanes part) first.some in
+grown_row nodes n lanes states slices many x word i group rest reason is first wide all =
+    let (lane, j) = some_in (set_lanes group) first.some in
     let f = λ (lane : ℕ). as_entry (x * lanes + lane, reason) in
-    let h = in_map f (i * slices + lane) (set_lanes word) (subst (IsIn (i * slices + lane)) (sym first.parts) (in_append_left (i * slices + lane) (map (λ lane. i * slices + lane) (set_lanes part)) (set_lanes rest) (in_map (λ lane. i * slices + lane) lane (set_lanes part) j))) in
+    let h = in_map f (i * slices + lane) (set_lanes word) (subst (IsIn (i * slices + lane)) (sym first.parts) (in_append_left (i * slices + lane) (map (λ lane. i * slices + lane) (set_lanes group)) (set_lanes rest) (in_map (λ lane. i * slices + lane) lane (set_lanes group) j))) in
     let old = x * lanes + (i * slices + lane) in
     let node = all (as_entry (old * states + 0, reason)) (in_flat_map (grown_numbers states) (f (i * slices + lane)) (as_entry (old * states + 0, reason)) (entries_in lanes x word reason) h (in_map (λ b. as_entry (old * states + b, reason)) 0 (below states) (in_below states 0 is.some_states))) in
     let row : (x * many + i) * n ≡ states * ((x * many + i) * slices) = ap (λ m. (x * many + i) * m) is.whole ∙ omega arith in

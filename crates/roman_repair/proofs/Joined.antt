@@ -58,8 +58,8 @@ pub few_behind : (n : ℕ) (ns : List ℕ) → 0 < n → product_of (n ∷ ns) �
 few_behind n ns some few = let less : product_of ns * 1 ≤ product_of ns * n = mul-le-mul_left (product_of ns) some in omega (arith, less, few)
 
 -- a number that divides the lanes of a row divides the lanes of one with a component more in front
-pub part_of_more : (n : ℕ) (ns : List ℕ) (w : ℕ) → 0 < n → (c : ℕ) × (lanes_of ns ≡ c * w) → (c : ℕ) × (lanes_of (n ∷ ns) ≡ c * w)
-part_of_more n ns w some (c, is) = elim (cases_lt 64 (product_of (n ∷ ns))) [
+pub group_of_more : (n : ℕ) (ns : List ℕ) (w : ℕ) → 0 < n → (c : ℕ) × (lanes_of ns ≡ c * w) → (c : ℕ) × (lanes_of (n ∷ ns) ≡ c * w)
+group_of_more n ns w some (c, is) = elim (cases_lt 64 (product_of (n ∷ ns))) [
   | inl more ↦ (c, (shorter_row n ns more).1 ∙ is)
   | inr few ↦
       let those : n * product_of ns ≡ n * (c * w) = ap (λ m. n * m) (sym (whole_row ns (few_behind n ns some few)).1 ∙ is) in
@@ -71,9 +71,9 @@ lanes_last : (ns : List ℕ) (n : ℕ) → AreSizes ns → 0 < n → n ≤ 64 �
 lanes_last [] n h some few = (1, ap (λ b. product_of (drop (cond b 1 0) (n ∷ []))) (le-ltb 64 (n * 1) (omega arith)) ∙ omega arith, 1, omega arith)
 lanes_last (x ∷ ns) n h some few = elim (cases_lt 64 (product_of (x ∷ (ns ++ n ∷ [])))) [
   | inl more ↦
-      let (m, is, d, part) = lanes_last ns n h.2 some few in
-      let (e, more_part) = part_of_more x ns m h.0 (d, part) in
-      (m, ap (λ b. product_of (drop (cond b (suc (low_of (ns ++ n ∷ []))) 0) (x ∷ (ns ++ n ∷ [])))) (lt-ltb 64 (product_of (x ∷ (ns ++ n ∷ []))) more) ∙ is, e, more_part)
+      let (m, is, d, group) = lanes_last ns n h.2 some few in
+      let (e, more_group) = group_of_more x ns m h.0 (d, group) in
+      (m, ap (λ b. product_of (drop (cond b (suc (low_of (ns ++ n ∷ []))) 0) (x ∷ (ns ++ n ∷ [])))) (lt-ltb 64 (product_of (x ∷ (ns ++ n ∷ []))) more) ∙ is, e, more_group)
   | inr less ↦
       let whole : product_of (x ∷ (ns ++ n ∷ [])) ≡ product_of (x ∷ ns) * n = product_append (x ∷ ns) (n ∷ []) ∙ omega arith in
       let most : product_of (x ∷ ns) * 1 ≤ product_of (x ∷ ns) * n = mul-le-mul_left (product_of (x ∷ ns)) some in
@@ -83,13 +83,13 @@ lanes_last (x ∷ ns) n h some few = elim (cases_lt 64 (product_of (x ∷ (ns ++
 
 pub joined_lanes : (s : Sys) (seat : Seat) → CanChange (Join seat) s → AreSizes (sizes_of s).seats → AreSlices (lanes_in (after (Join seat) s)) (lanes_in s) seat.beh.states
 joined_lanes s seat can sizes =
-    let (m, is, d, part) = lanes_last (sizes_of s).seats seat.beh.states sizes can.0.states.0 can.0.states.1 in
-    record { few = lanes_few (sizes_of s).seats; slices = (m, ap (λ (n : Sizes). lanes_of n.seats) (sizes-joined s seat) ∙ is, d, part) }
+    let (m, is, d, group) = lanes_last (sizes_of s).seats seat.beh.states sizes can.0.states.0 can.0.states.1 in
+    record { few = lanes_few (sizes_of s).seats; slices = (m, ap (λ (n : Sizes). lanes_of n.seats) (sizes-joined s seat) ∙ is, d, group) }
 
--- the entries of a part of a row are grown to those of a row
-pub grown_part : (n m d states lanes x i word : ℕ) (reason : Reason) (L : List ℕ) → n ≡ m * states → lanes ≡ d * m → set_lanes word ≡ flat_map (λ lane. map (λ b. lane * states + b) (below states)) L →
+-- the entries of a group are grown to those of a row
+pub grown_group : (n m d states lanes x i word : ℕ) (reason : Reason) (L : List ℕ) → n ≡ m * states → lanes ≡ d * m → set_lanes word ≡ flat_map (λ lane. map (λ b. lane * states + b) (below states)) L →
     entries_in n (x * d + i) word reason ≡ flat_map (grown_numbers states) (map (λ lane. as_entry (x * lanes + i * m + lane, reason)) L)
-grown_part n m d states lanes x i word reason L whole parts spread =
+grown_group n m d states lanes x i word reason L whole parts spread =
     let place : (lane b : ℕ) → (x * d + i) * n + (lane * states + b) ≡ (x * lanes + i * m + lane) * states + b = λ lane b.
     let row : (x * d + i) * n ≡ (x * d + i) * (m * states) = ap (λ k. (x * d + i) * k) whole in
     let first : x * lanes ≡ x * (d * m) = ap (λ k. x * k) parts in

@@ -3,7 +3,7 @@ pub mod Repairing
 pub mod Keeping
 pub mod Waiting
 pub mod Joined
-pub mod DeathParts
+pub mod DeathGroups
 pub mod DeathEntries
 pub mod Fronts
 pub mod Growing

@@ -32,8 +32,8 @@ list_with n k seat L W = L ++ first_numbers (nodes_of L) (entries_left n k seat 
 abbrev pub entries_from : ℕ → ℕ → Reason → List (Entry ℕ)
 entries_from first word reason = map (λ i. as_entry (first + i, reason)) (set_lanes word)
 
--- each part of `width` neighbouring pairs lies in one row and has one state of seat k, and the renamed pairs of a part lie in one row
-pub record IsPart (sizes : List ℕ) (k width : ℕ) : Type 0 where
+-- each group of `width` neighbouring pairs lies in one row and has one state of seat k, and the renamed pairs of a group lie in one row
+pub record IsGroup (sizes : List ℕ) (k width : ℕ) : Type 0 where
   pub stride : (c : ℕ) × (product_of (drop (k + 1) sizes) ≡ c * width)
   pub lanes : (c : ℕ) × (lanes_of sizes ≡ c * width)
   pub left : (c : ℕ) × (lanes_of (remove sizes k) ≡ c * width)
@@ -53,12 +53,12 @@ pub record IsWithin (s : Sys) (e : Batch) : Type 0 where
   pub batch : IsBatch (lanes_in s) e
   pub nodes : (x : Entry ℕ) → IsIn x (entries_at (lanes_in s) e) → x.node < count (sizes_of s)
 
--- the pairs `first + i`, for each bit i of the word, are pairs of one part
-pub record AreInPart (n : Sizes) (k first word : ℕ) : Type 0 where
+-- the pairs `first + i`, for each bit i of the word, are pairs of one group
+pub record AreInGroup (n : Sizes) (k first word : ℕ) : Type 0 where
   pub seat : k < length n.seats
   pub inside : first < count n
   pub pair : (i : ℕ) → is_on word i ≡ true → first + i < count n
-  pub part : (width : ℕ) × (j : ℕ) × IsPart n.seats k width × (first ≡ j * width) × ((i : ℕ) → is_on word i ≡ true → i < width)
+  pub group : (width : ℕ) × (j : ℕ) × IsGroup n.seats k width × (first ≡ j * width) × ((i : ℕ) → is_on word i ≡ true → i < width)
 
 -- renaming the entries M after the list `new` has the same result as renaming the entries L after the list `old`
 pub record Renames (s : Sys) (k : ℕ) (L M old new : List (Entry ℕ)) : Type 0 where
@@ -68,9 +68,9 @@ pub record Renames (s : Sys) (k : ℕ) (L M old new : List (Entry ℕ)) : Type 0
 abbrev pub CanDie : NamedSys → ℕ → Seat → Type 0
 CanDie joint k seat = CanChange (Die k seat) (system_of joint)
 
--- the pairs `first + i`, for each bit i of the word, are pairs of one part, in which the leaver has one state
-abbrev pub IsPartOf : NamedSys → Leaver → ℕ → ℕ → Type 0
-IsPartOf joint leaver first word = AreInPart (sizes_of (system_of joint)) leaver.k first word
+-- the pairs `first + i`, for each bit i of the word, are pairs of one group, in which the leaver has one state
+abbrev pub IsGroupOf : NamedSys → Leaver → ℕ → ℕ → Type 0
+IsGroupOf joint leaver first word = AreInGroup (sizes_of (system_of joint)) leaver.k first word
 
 -- all entries of L were renamed and appended
 abbrev pub RenamesAll : NamedSys → Leaver → List (Entry ℕ) → Board → Board → Type 0

@@ -21,11 +21,11 @@ pub record HasFront (word held front rest : ℕ) (holds : Bool) : Type 0 where
   pub in_rest : (lane : ℕ) → is_on rest lane ≡ true → is_on word lane ≡ true
   pub fits : rest < 2 ^ 64
 
--- the lanes of part i, counted from its first one, and those of the parts after it; the parts before it have none
-pub record IsFirstPart (word width i part rest : ℕ) : Type 0 where
-  pub parts : set_lanes word ≡ map (λ lane. i * width + lane) (set_lanes part) ++ set_lanes rest
-  pub some : 0 < length (set_lanes part)
-  pub in_part : (lane : ℕ) → is_on part lane ≡ true → (lane < width) × (is_on word (i * width + lane) ≡ true)
+-- the lanes of group i, counted from its first one, and those of the groups after it; the groups before it have none
+pub record IsFirstGroup (word width i group rest : ℕ) : Type 0 where
+  pub parts : set_lanes word ≡ map (λ lane. i * width + lane) (set_lanes group) ++ set_lanes rest
+  pub some : 0 < length (set_lanes group)
+  pub in_group : (lane : ℕ) → is_on group lane ≡ true → (lane < width) × (is_on word (i * width + lane) ≡ true)
   pub in_rest : (lane : ℕ) → is_on rest lane ≡ true → is_on word lane ≡ true
   pub fits : rest < 2 ^ 64
 

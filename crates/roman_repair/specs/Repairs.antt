@@ -38,7 +38,7 @@ abbrev pub Repairs : Change → Relation → Relation → Tally → Type 0
 Repairs change old new tally = IsRepaired change old.joint old.order new.joint new.order tally
 
 -- the seat can join: it is ready, its name is new, and its behaviour is one of the catalogue
-pub record IsNewcomer (joint : NamedSys) (seat : Seat) : Type 0 where
+pub record IsNewSeat (joint : NamedSys) (seat : Seat) : Type 0 where
   pub behaviour : seat.behaviour < length joint.catalogue
   pub name : IsIn seat.name (map (λ other. other.name) joint.seats) → ⊥
   pub ready : IsFalse seat.frozen

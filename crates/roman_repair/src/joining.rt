@@ -4,7 +4,7 @@ ghost use Rattle.roman_model.specs.Change.{after};
 ghost use Rattle.roman_model.specs.declared.limits.TheConstants.{MAX_SERVICES};
 ghost use Rattle.roman_joint.specs.NamedSys.{seat_of, system_of, cells};
 ghost use Rattle.roman_relation.specs.Greatest.{IsUpToDate};
-ghost use Rattle.roman_repair.specs.Repairs.{HasSeats, IsNewcomer, IsWithinReading, joining, Repairs};
+ghost use Rattle.roman_repair.specs.Repairs.{HasSeats, IsNewSeat, IsWithinReading, joining, Repairs};
 
 use crate::replaying::Newcomer;
 use crate::settling::replay_and_settle_on;
@@ -31,7 +31,7 @@ pub fn join<L: Ledger>(
     steps: &mut Steps<L>,
 ) -> Result<Tally, SeatError>
     requires relation { IsUpToDate relation.old }
-    requires seat { IsNewcomer relation.old.joint seat }
+    requires seat { IsNewSeat relation.old.joint seat }
     ensures joint { OnOk result (HasSeats relation.old relation.new (relation.old.joint.seats ++ seat ∷ [])) }
     ensures repaired { IfOk result (Repairs (joining relation.old.joint seat) relation.old relation.new) }
     ensures cost { IfOk result (λ tally. IsWithinReading relation.new tally steps.old steps.new) }

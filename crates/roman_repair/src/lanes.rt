@@ -2,7 +2,7 @@
 ghost use Rattle.std.specs.Prelude.{◌≡◌, ℕ, ◌*◌, ◌<◌, ◌≤◌, true, false, length};
 ghost use Rattle.roman_lanes.specs.Rows.{is_on};
 ghost use Rattle.roman_order.specs.Board.{set_lanes};
-ghost use Rattle.roman_repair.specs.Lanes.{HasFront, HasLanesBetween, IsCutAt, IsFirstPart, IsSpread};
+ghost use Rattle.roman_repair.specs.Lanes.{HasFront, HasLanesBetween, IsCutAt, IsFirstGroup, IsSpread};
 
 /// Splits the lanes of `word` into those below `end` and those from it on.
 fn cut_at(word: u64, end: u32) -> (u64, u64)
@@ -28,12 +28,12 @@ pub(crate) fn first_alike(word: u64, held: u64) -> (u64, u64, bool)
     (front, rest, false)
 }
 
-/// Splits off the first part of a word that has a lane. Each part has `width` lanes. Returns its
-/// number, its lanes from its first one on, and the lanes of the later parts. Requires a lane.
-pub(crate) fn first_part(word: u64, width: u32) -> (u32, u64, u64)
+/// Splits off the first group of a word that has a lane. Each group has `width` lanes. Returns its
+/// number, its lanes from its first one on, and the lanes of the later groups. Requires a lane.
+pub(crate) fn first_group(word: u64, width: u32) -> (u32, u64, u64)
     requires some { 0 < length (set_lanes word) }
     requires width { (0 < width) × (width ≤ 64) }
-    ensures { IsFirstPart word width result.0 result.1 result.2 }
+    ensures { IsFirstGroup word width result.0 result.1 result.2 }
 {
     let i = word.trailing_zeros() / width;
     let begin = i * width;
@@ -66,7 +66,7 @@ fn next_lane(word: u64, from: u32, end: u32) -> u32
 }
 
 /// Returns the first `lanes` lanes of a word, each spread to as many neighbours as `width`. Takes
-/// one iteration for each group of neighbouring lanes.
+/// one iteration for each stretch of neighbouring lanes.
 pub(crate) fn spread_lanes(word: u64, lanes: u32, width: u32) -> u64
     requires { (0 < width) × (lanes * width ≤ 64) }
     ensures { IsSpread word result lanes width }

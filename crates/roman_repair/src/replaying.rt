@@ -6,7 +6,7 @@ ghost use Rattle.roman_repair.specs.Replays.{candidates};
 
 use crate::band_probe::BandProbe;
 use crate::batches::keep_lanes;
-use crate::lanes::{first_part, spread_lanes};
+use crate::lanes::{first_group, spread_lanes};
 use roman_io::Steps;
 use roman_order::{Batch, Order};
 use roman_rules::Rules;
@@ -33,11 +33,11 @@ fn first_grown<J: Rules>(joint: &J, newcomer: Newcomer, batch: Batch) -> (Batch,
     joint.known(); // a row has 1 to 64 lanes, a pair's number fits in 32 bits
     let width = u32::from(newcomer.states);
     let slices = joint.lanes() / width;
-    let (i, part, rest) = first_part(batch.lanes, slices);
+    let (i, group, rest) = first_group(batch.lanes, slices);
     let grown = Batch {
         row: batch.row * (newcomer.lanes / slices) + i,
         reason: batch.reason,
-        lanes: spread_lanes(part, slices, width),
+        lanes: spread_lanes(group, slices, width),
     };
     (grown, rest)
 }

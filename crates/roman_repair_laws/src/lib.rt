@@ -14,7 +14,7 @@ ghost use Rattle.roman_model.specs.System as model;
 ghost use Rattle.roman_joint.specs.NamedSys.{system_of};
 ghost use Rattle.roman_relation.specs.Greatest.{IsUpToDate};
 ghost use Rattle.roman_relation.specs.Seats.{IsFrozenAt, IsReadyAt};
-ghost use Rattle.roman_repair.specs.Repairs.{IsNewcomer, joining};
+ghost use Rattle.roman_repair.specs.Repairs.{IsNewSeat, joining};
 ghost use Rattle.roman_repair_laws.specs.Calls.{CallKeepsTheMost};
 
 use roman_io::Steps;
@@ -60,7 +60,7 @@ pub fn join_keeps_the_most<L: Ledger>(
     steps: &mut Steps<L>,
 ) -> Result<Tally, JoinError>
     requires relation { IsUpToDate relation.old }
-    requires seat { IsNewcomer relation.old.joint seat }
+    requires seat { IsNewSeat relation.old.joint seat }
     ensures kept { IfOk result (CallKeepsTheMost (joining relation.old.joint seat) relation.old relation.new) }
 {
     repairs_keep_the_most();

@@ -25,7 +25,7 @@ pub use lib.Lanes.{chunk, mask_l}
 pub use Rattle.roman_text.specs.Lines.{IsSplit, is_newline}
 unfoldable pub use Rattle.roman_text.specs.Lines.{line_head, unfinished}
 pub use Rattle.roman_text.specs.Pages.{Gathered, Gathers}
-pub use Rattle.roman_text.specs.Shapes.{LineShape, abort, by_words, delegate, die, explain, freeze, has_bytes, is_blank, is_comment, is_part, join, jump, jump_env, nothing, observe, quit, report, request, shape_of_words, spelling, thaw, with_four}
+pub use Rattle.roman_text.specs.Shapes.{LineShape, abort, by_words, delegate, die, explain, freeze, has_bytes, is_blank, is_comment, is_word_byte, join, jump, jump_env, nothing, observe, quit, report, request, shape_of_words, spelling, thaw, with_four}
 unfoldable pub use Rattle.roman_text.specs.Shapes.{shape_of, words_of}
 pub use Rattle.roman_text.specs.declared.errors.LineError.{LineError}
 pub use Rattle.roman_text.specs.declared.errors.LineError.TheVariants.{Form, TooLong}

@@ -1,5 +1,5 @@
 -- The words of a line, from its first word on.
-use Rattle.roman_text.proofs.Common.{◌≡◌, ℕ, suc, ◌+◌, ◌<◌, ◌≤◌, List, [], ◌∷◌, length, take, drop, get_or, Bool, true, false, not, cond, None, Some, refl, sym, ap, ◌∙◌, arith, drop-cons, filter, unwrap_or, not-true, nat_tests, prefix_len-le-length, passes_at_first, position, position_or_len, slice_split, words_of, is_blank, is_part, has_bytes, drop_all, slice_split-cons_yes, slice_split-cons_no}
+use Rattle.roman_text.proofs.Common.{◌≡◌, ℕ, suc, ◌+◌, ◌<◌, ◌≤◌, List, [], ◌∷◌, length, take, drop, get_or, Bool, true, false, not, cond, None, Some, refl, sym, ap, ◌∙◌, arith, drop-cons, filter, unwrap_or, not-true, nat_tests, prefix_len-le-length, passes_at_first, position, position_or_len, slice_split, words_of, is_blank, is_word_byte, has_bytes, drop_all, slice_split-cons_yes, slice_split-cons_no}
 
 -- ---- places in a list
 
@@ -31,18 +31,18 @@ start_step true x xs n e h = let next : 1 + n ≡ suc n = omega arith in rw next
 start_step false x xs n e h = refl
 
 -- the blanks at the beginning of a line have no words
-words_of-start : (line : List ℕ) → words_of (drop (position_or_len is_part line) line) ≡ words_of line
+words_of-start : (line : List ℕ) → words_of (drop (position_or_len is_word_byte line) line) ≡ words_of line
 words_of-start [] = refl
-words_of-start (x ∷ xs) = start_step (is_blank x) x xs (position_or_len is_part xs) refl (words_of-start xs)
+words_of-start (x ∷ xs) = start_step (is_blank x) x xs (position_or_len is_word_byte xs) refl (words_of-start xs)
 
 words_of-nil : words_of [] ≡ []
 unfolding words_of
 words_of-nil = refl
 
 -- a line of blanks has no words
-pub no_words : (line : List ℕ) → position is_part line ≡ None → words_of line ≡ []
+pub no_words : (line : List ℕ) → position is_word_byte line ≡ None → words_of line ≡ []
 no_words line h =
-    sym (words_of-start line) ∙ (ap words_of (drop_all (position_or_len is_part line) line (none_at is_part line h)) ∙ words_of-nil)
+    sym (words_of-start line) ∙ (ap words_of (drop_all (position_or_len is_word_byte line) line (none_at is_word_byte line h)) ∙ words_of-nil)
 
 -- the parts of a line after its first one
 record IsPrefix (line : List ℕ) (n : ℕ) : Type 0 where
@@ -83,14 +83,14 @@ word_in : (line : List ℕ) (x : ℕ) (xs : List ℕ) → line ≡ x ∷ xs → 
 word_in line x xs s e = rw s (word_at x xs e)
 
 -- the first word of a line, and the words after it
-pub word_first : (line rest a b : List ℕ) (i j : ℕ) → position is_part line ≡ Some i → rest ≡ drop i line → j ≡ position_or_len is_blank rest
+pub word_first : (line rest a b : List ℕ) (i j : ℕ) → position is_word_byte line ≡ Some i → rest ≡ drop i line → j ≡ position_or_len is_blank rest
     → a ≡ take j rest → b ≡ drop j rest → words_of line ≡ a ∷ words_of b
 word_first line rest a b i j found is_rest is_end is_a is_b =
-    let n = position_or_len is_part line in
-    let at = some_at is_part line i found in
+    let n = position_or_len is_word_byte line in
+    let at = some_at is_word_byte line i found in
     let begins : rest ≡ get_or line n 0 ∷ drop (suc n) line = is_rest ∙ (ap (λ (k : ℕ). drop k line) at.0 ∙ drop-cons line n 0 at.1) in
     let here : words_of line ≡ words_of rest = sym (words_of-start line) ∙ ap words_of (sym (is_rest ∙ ap (λ (k : ℕ). drop k line) at.0)) in
-    let is_mark : is_blank (get_or line n 0) ≡ false = not-true (is_blank (get_or line n 0)) (passes_at_first is_part line 0 at.1) in
+    let is_mark : is_blank (get_or line n 0) ≡ false = not-true (is_blank (get_or line n 0)) (passes_at_first is_word_byte line 0 at.1) in
     here ∙ rw (is_a, is_b, is_end) (word_in rest (get_or line n 0) (drop (suc n) line) begins is_mark)
 
 -- the end of a word

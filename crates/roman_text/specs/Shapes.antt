@@ -31,8 +31,8 @@ abbrev pub is_blank : ℕ → Bool
 is_blank byte = byte == 32 || byte == 9
 
 -- a byte that is neither a space nor a tab
-abbrev pub is_part : ℕ → Bool
-is_part byte = not (is_blank byte)
+abbrev pub is_word_byte : ℕ → Bool
+is_word_byte byte = not (is_blank byte)
 
 -- the list isn't empty
 abbrev pub has_bytes : List ℕ → Bool

@@ -2,7 +2,7 @@
 ghost use Rattle.std.specs.Prelude.{◌≡◌, ◌≤◌, position, length};
 ghost use Rattle.std.specs.List.{position_or_len};
 ghost use Rattle.std.specs.Str.Lines.{strip_carriage_return};
-ghost use Rattle.roman_text.specs.Shapes.{IsFirstWord, is_blank, is_comment, is_part};
+ghost use Rattle.roman_text.specs.Shapes.{IsFirstWord, is_blank, is_comment, is_word_byte};
 
 /// Returns whether the byte separates words. The first comparison excludes most bytes.
 fn is_blank(byte: u8) -> bool
@@ -13,7 +13,7 @@ fn is_blank(byte: u8) -> bool
 
 /// Returns the place where the first word begins, or `None` if there is no word.
 fn word_start(line: &[u8]) -> Option<usize>
-    ensures { result ≡ position is_part line.now }
+    ensures { result ≡ position is_word_byte line.now }
 {
     line.iter().position(|&byte| !is_blank(byte))
 }

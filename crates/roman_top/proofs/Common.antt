@@ -13,7 +13,7 @@ pub use Rattle.roman_cost.proofs.CallerLemmas.{advice_least}
 pub use Rattle.roman_cost.specs.AdviceText.{Advising, Told, TooMany, Unrelated, advice_text, advised_by}
 pub use Rattle.roman_cost.specs.Costs.{costs_of}
 pub use Rattle.roman_cost.specs.Laws.{TellsLeast}
-pub use Rattle.roman_cost.specs.Refusals.{place_of_rule}
+pub use Rattle.roman_cost.specs.Refusals.{list_of_rule}
 pub use Rattle.roman_cost.specs.Tables.{seat_costs}
 pub use Rattle.roman_cost.specs.declared.costs.Listed.{Listed}
 pub use Rattle.roman_cost.specs.declared.error.AdviceError.{AdviceError}
@@ -96,7 +96,7 @@ pub use Rattle.roman_text.specs.Report.{line_text}
 pub use Rattle.roman_text.specs.Shapes.{LineShape, delegate, observe, quit, request}
 unfoldable pub use Rattle.roman_text.specs.Shapes.{shape_of, words_of}
 pub use Rattle.roman_text.specs.declared.errors.LineError.{LineError}
-pub use Rattle.roman_whatif.specs.Left.{places}
+pub use Rattle.roman_whatif.specs.Left.{failing_places}
 pub use Rattle.roman_whatif.specs.Told.{told}
 pub use Rattle.roman_top.specs.AdviseText.{Affords, DoesAdvise, OnCosts, SaysAdvice}
 pub use Rattle.roman_top.specs.Causes.{InputCause}

@@ -1,5 +1,5 @@
 -- The lines of `resilience`, pushed one after another.
-use Rattle.roman_top.proofs.Common.{IsFilling, fill_whole, head_for, ones_for, outlooks_for, twos_for, ◌≡◌, ℕ, ◌+◌, ◌<◌, ◌≤◌, List, [], ◌++◌, map, length, drop, codes, decimal, refl, ap, ap₂, ◌∙◌, arith, flat_map, append-nil, below, Pair, outlook, system_without, pair_without, Outlook, Way, from_place, from_end, NamedSys, system_of, outlook_words, service_names, lines_without, outlook_text, way_word, line_without, head_text, flat_map-append}
+use Rattle.roman_top.proofs.Common.{IsFilling, fill_whole, head_for, ones_for, outlooks_for, twos_for, ◌≡◌, ℕ, ◌+◌, ◌<◌, ◌≤◌, List, [], ◌++◌, map, length, drop, codes, decimal, refl, ap, ap₂, ◌∙◌, arith, flat_map, append-nil, below, Pair, outlook, system_without, pair_without, Outlook, Way, from_place, from_end, NamedSys, system_of, outlook_words, service_names, lines_without, outlook_text, way_word, line_without, head_text, flat_map-append, Option}
 use Rattle.roman_model.specs.declared.way.Way.TheVariants.{Freeze, Die}
 
 -- Lines.

@@ -5,7 +5,7 @@ ghost use Rattle.roman_model.specs.declared.limits.TheConstants.{MAX_BEHAVIOURS}
 ghost use Rattle.roman_parts.specs.declared.error.PartError.TheVariants as part_error;
 ghost use Rattle.roman_relation.specs.Greatest.{IsRelation};
 ghost use Rattle.roman_cost.specs.NamedWords.{IsPairNumber};
-ghost use Rattle.roman_cost.specs.Refusals.{place_of_rule};
+ghost use Rattle.roman_cost.specs.Refusals.{list_of_rule};
 ghost use Rattle.roman_cost.specs.Tables.{AreOf};
 ghost use Rattle.roman_text.specs.Report.{line_text};
 ghost use Rattle.roman_text.specs.declared.report.ReportLine.TheVariants as line;
@@ -87,7 +87,7 @@ fn refuse<O: Sink>(
     index: u32,
     out: &mut O,
 ) -> Status
-    ensures { let error = part_error.Refused kind (place_of_rule whole) index in
+    ensures { let error = part_error.Refused kind (list_of_rule whole) index in
         RefusesCosts O.Sink name.now error out.old out.new result }
 {
     let Ok(document) = FileName::new(alloc, name) else {
@@ -105,7 +105,7 @@ fn refuse<O: Sink>(
 
 /// Returns the list that a refusal of costs names: the text as a whole, or its items.
 fn list_of(whole: bool) -> List
-    ensures { result ≡ place_of_rule whole }
+    ensures { result ≡ list_of_rule whole }
 {
     if whole { List::Whole } else { List::Steps }
 }

@@ -5,7 +5,7 @@ ghost use Rattle.roman_model.specs.Explanation.{name_at};
 ghost use Rattle.roman_joint.specs.Names.{seat_name};
 ghost use Rattle.roman_relation.specs.Greatest.{IsRelation};
 ghost use Rattle.roman_text.specs.Pages.{Pushes};
-ghost use Rattle.roman_whatif.specs.Left.{places};
+ghost use Rattle.roman_whatif.specs.Left.{failing_places};
 ghost use Rattle.roman_whatif.specs.Losses.{AreLosses, MayFail};
 ghost use Rattle.roman_whatif.specs.Told.{told};
 ghost use Rattle.roman_cost.specs.NamedWords.{IsPairNumber};
@@ -116,7 +116,7 @@ fn push_lines<O: Sink>(
     requires losses { AreLosses joint.now losses.now }
     requires places { MayFail joint.now first second }
     ensures gathers { Pushes O.Sink out.old out.new page.old page.new
-        (lines_for joint.now losses.now.pair (places first second)) result }
+        (lines_for joint.now losses.now.pair (failing_places first second)) result }
     ensures cause { FailsWith O.Sink out.old out.new result }
 {
     let frozen = losses.left(first, second, Way::Freeze);
@@ -138,7 +138,7 @@ fn push_line<O: Sink>(
     requires first { first < length joint.now.seats }
     requires second { IfSome second (λ j. j < length joint.now.seats) }
     ensures gathers { Pushes O.Sink out.old out.new page.old page.new
-        (line_without joint.now (places first second) way (told left.now)) result }
+        (line_without joint.now (failing_places first second) way (told left.now)) result }
     ensures cause { FailsWith O.Sink out.old out.new result }
 {
     let prefix = names_piece(joint, first, second).text(way_word(way));
@@ -160,7 +160,7 @@ fn services_piece(services: u8) -> Piece
 fn names_piece(joint: &Joint, first: u8, second: Option<u8>) -> Piece
     requires first { first < length joint.now.seats }
     requires second { IfSome second (λ j. j < length joint.now.seats) }
-    ensures text { result ≡ codes "without" ++ service_names joint.now (places first second) }
+    ensures text { result ≡ codes "without" ++ service_names joint.now (failing_places first second) }
     ensures short { length result ≤ 80 }
 {
     let one = with_name(Piece::new().text(b"without"), joint, first);

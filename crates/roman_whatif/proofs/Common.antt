@@ -29,6 +29,6 @@ pub use Rattle.roman_model.specs.declared.way.Way.TheVariants.{Die, Freeze}
 pub use Rattle.roman_order.specs.Board.{Board}
 pub use Rattle.roman_relation.specs.Greatest.{IsRelation}
 pub use Rattle.roman_relation.specs.declared.relation.Relation.{Relation}
-pub use Rattle.roman_whatif.specs.Left.{IsIdleScratchOf, IsLeft, places}
+pub use Rattle.roman_whatif.specs.Left.{IsIdleScratchOf, IsLeft, failing_places}
 pub use Rattle.roman_whatif.specs.Losses.{AreAlike, AreTold, AreTrialsOf, IsToldOf, left_of, told_at}
 pub use Rattle.roman_whatif.specs.Told.{told}

@@ -56,17 +56,17 @@ alike_second parts p k i way alike l =
 
 -- Tables.
 
--- a row is copied from the row before, if the two services and the one before are alike
-pub row_repeats : (parts : NamedSys) (p b c : ℕ) (way : Way) (old new : List declared.Outlook) → b ≡ suc c → AreAlike parts p c → AreAlike parts p b → IsToldOf parts p way b old →
+-- the outlooks of a service are copies of those of the service before, if the two services and the one before are alike
+pub outlooks_repeat : (parts : NamedSys) (p b c : ℕ) (way : Way) (old new : List declared.Outlook) → b ≡ suc c → AreAlike parts p c → AreAlike parts p b → IsToldOf parts p way b old →
     ((k : ℕ) → k < b → told_at new (32 * b + 32 + k) ≡ told_at old (32 * b + k)) → ((k : ℕ) → k + 1 ≡ b → told_at new (32 * b + 32 + b) ≡ told_at old (32 * b + k)) →
     told_at new (32 * b + 33 + b) ≡ told_at old (32 * b + b) → IsToldOf parts p way (suc b) new
-row_repeats parts p b c way old new next before here row two last alone = record {
-  alone = ap (told_at new) (omega arith) ∙ alone ∙ row.alone ∙ sym (alike_alone parts p b way here);
+outlooks_repeat parts p b c way old new next before here own two last alone = record {
+  alone = ap (told_at new) (omega arith) ∙ alone ∙ own.alone ∙ sym (alike_alone parts p b way here);
   two = λ k l. elim (cases_lt k b) [
-    | inl less ↦ ap (told_at new) (omega arith) ∙ two k less ∙ row.two k less ∙ sym (alike_second parts p b k way here less)
+    | inl less ↦ ap (told_at new) (omega arith) ∙ two k less ∙ own.two k less ∙ sym (alike_second parts p b k way here less)
     | inr most ↦
         let same : k ≡ b = omega arith in
-        ap (told_at new) (omega arith) ∙ last c (omega arith) ∙ row.two c (omega arith) ∙ sym (alike_second parts p b c way here (omega arith))
+        ap (told_at new) (omega arith) ∙ last c (omega arith) ∙ own.two c (omega arith) ∙ sym (alike_second parts p b c way here (omega arith))
         ∙ sym (alike_first parts p c (suc b) way before (omega arith)) ∙ ap (λ i. left_of parts p way (i ∷ suc b ∷ [])) (sym next ∙ sym same)
   ];
 }

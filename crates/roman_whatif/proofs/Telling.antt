@@ -16,14 +16,14 @@ pub told_still : (parts : NamedSys) (p : ℕ) (way : Way) (i m : ℕ) (table new
 told_still parts p way i m table new few l same told_of = grind arith
 
 -- the table has one outlook more
-pub told_one_more : (table : List declared.Outlook) (row k : ℕ) (o : declared.Outlook) (left : ℕ → Outlook) → row + k < length table → told o ≡ left k →
-    ((i : ℕ) → i < k → told_at table (row + i) ≡ left i) → (i : ℕ) → i < k + 1 → told_at (set table (row + k) o) (row + i) ≡ left i
-told_one_more table row k o left room is so_far i l = grind (arith, cases_lt, told_elsewhere, told_there)
+pub told_one_more : (table : List declared.Outlook) (first k : ℕ) (o : declared.Outlook) (left : ℕ → Outlook) → first + k < length table → told o ≡ left k →
+    ((i : ℕ) → i < k → told_at table (first + i) ≡ left i) → (i : ℕ) → i < k + 1 → told_at (set table (first + k) o) (first + i) ≡ left i
+told_one_more table first k o left room is so_far i l = grind (arith, cases_lt, told_elsewhere, told_there)
 
--- the table has one row more
-pub rows_more : (parts : NamedSys) (p : ℕ) (way : Way) (j : ℕ) (table new : List declared.Outlook) → j < 32 → ((x : ℕ) → x < 32 * j → told_at new x ≡ told_at table x) →
+-- the table has the outlooks of one service more
+pub outlooks_more : (parts : NamedSys) (p : ℕ) (way : Way) (j : ℕ) (table new : List declared.Outlook) → j < 32 → ((x : ℕ) → x < 32 * j → told_at new x ≡ told_at table x) →
     ((i : ℕ) → i < j → IsToldOf parts p way i table) → IsToldOf parts p way j new → (i : ℕ) → i < j + 1 → IsToldOf parts p way i new
-rows_more parts p way j table new few same so_far last i l = elim (cases_lt i j) [
+outlooks_more parts p way j table new few same so_far last i l = elim (cases_lt i j) [
   | inl less ↦ told_still parts p way i j table new (omega arith) less same (so_far i less)
   | inr most ↦ let here : j ≡ i = omega arith in subst (λ n. IsToldOf parts p way n new) here last
 ]

@@ -11,9 +11,9 @@ use Rattle.roman_relation.specs.Greatest.{HasCaps, IsRelation}
 use Rattle.roman_relation.specs.declared.relation.Relation.{Relation}
 
 -- the places of the seats that fail
-abbrev pub places : ℕ → Option ℕ → List ℕ
-places first None = first ∷ []
-places first (Some second) = first ∷ second ∷ []
+abbrev pub failing_places : ℕ → Option ℕ → List ℕ
+failing_places first None = first ∷ []
+failing_places first (Some second) = first ∷ second ∷ []
 
 -- p is the number of a pair, and k is the place of a seat
 abbrev pub HasPairAndSeat : NamedSys → ℕ → ℕ → Type 0

@@ -40,14 +40,14 @@ AreToldIn scenario = λ table. AreTold scenario.base.now.joint scenario.pair sce
 abbrev pub AreTrialsIn : Scenario → Trials → Type 0
 AreTrialsIn scenario trials = AreTrialsOf scenario.base.now.joint trials
 
--- the failures of the seat at place j can be tried: the table has a row for each seat
+-- the failures of the seat at place j can be tried: the table has places for the outlooks of each seat
 pub record CanTry (scenario : Scenario) (j : ℕ) (copies : Trials) (table : List declared.Outlook) : Type 0 where
   pub known : IsScenario scenario
   pub place : (j < length scenario.base.now.joint.seats) × (j < 32)
   pub trials : AreTrialsIn scenario copies
   pub room : length table ≡ 32 * length scenario.base.now.joint.seats
 
--- the failures of the seat at place j were tried: the table has its row, and the rows before are unchanged
+-- the failures of the seat at place j were tried: the table has its outlooks, and those before are unchanged
 pub record HasTried (scenario : Scenario) (j : ℕ) (old new : List declared.Outlook) (copies : Trials) : Type 0 where
   pub told : IsToldIn scenario j new
   pub before : (i : ℕ) → i < 32 * j → told_at new i ≡ told_at old i

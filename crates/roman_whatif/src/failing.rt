@@ -5,7 +5,7 @@ ghost use Rattle.roman_model.specs.Numbers.{sizes_of, pair_at};
 ghost use Rattle.roman_model.specs.Without.{system_without, pair_without};
 ghost use Rattle.roman_joint.specs.NamedSys.{system_of};
 ghost use Rattle.roman_relation.specs.Greatest.{HasCaps, IsUpToDate};
-ghost use Rattle.roman_whatif.specs.Left.{places, HasPairAndSeat, IsScratchOf, IsIdleScratchOf, FailsTo};
+ghost use Rattle.roman_whatif.specs.Left.{failing_places, HasPairAndSeat, IsScratchOf, IsIdleScratchOf, FailsTo};
 ghost use Rattle.roman_whatif.specs.Losses.{left_of};
 ghost use Rattle.roman_whatif.specs.Told.{told};
 ghost use Rattle.roman_joint.specs.Pairs.{joint_pairs};
@@ -37,8 +37,8 @@ pub fn without<L: Ledger>(
     requires pair { p < joint_pairs base.now.joint }
     requires first { first < length base.now.joint.seats }
     requires second { IfSome second (λ j. (first < j) × (j < length base.now.joint.seats)) }
-    ensures outlook { told result ≡ left_of base.now.joint p way (places first second) }
-    ensures great { let s = system_of base.now.joint in let K = places first second in
+    ensures outlook { told result ≡ left_of base.now.joint p way (failing_places first second) }
+    ensures great { let s = system_of base.now.joint in let K = failing_places first second in
         IsTrue result.composes ↔ Great (system_without way K s) (pair_without way K (pair_at (sizes_of s) p)) }
     ensures scratch { IsScratchOf base.now.joint scratch.new }
 {

@@ -3,7 +3,7 @@ ghost use Rattle.std.specs.Prelude.{◌≡◌, ℕ, ◌+◌, ◌*◌, ◌<◌, �
 ghost use Rattle.roman_model.specs.Numbers.{count};
 ghost use Rattle.roman_joint.specs.NamedSys.{NamedSys};
 ghost use Rattle.roman_relation.specs.Greatest.{IsUpToDate};
-ghost use Rattle.roman_whatif.specs.Left.{places, IsIdleScratchOf};
+ghost use Rattle.roman_whatif.specs.Left.{failing_places, IsIdleScratchOf};
 ghost use Rattle.roman_whatif.specs.Told.{told};
 ghost use Rattle.roman_whatif.specs.Losses.{told_at, left_of, MayFail, AreTold, AreLosses, AreTrialsOf, RepeatsRow};
 ghost use Rattle.roman_whatif.specs.Scenarios.{left_in, AreToldIn, AreTrialsIn, CanTry, HasPair, HasTried, IsLeftIn, IsScenario, IsToldIn};
@@ -73,7 +73,7 @@ impl Losses {
     pub fn left(&self, first: u8, second: Option<u8>, way: Way) -> Outlook
         requires { (parts : NamedSys) × AreLosses parts self.now × MayFail parts first second }
         ensures { (parts : NamedSys) → AreLosses parts self.now → MayFail parts first second →
-            told result ≡ left_of parts self.now.pair way (places first second) }
+            told result ≡ left_of parts self.now.pair way (failing_places first second) }
     {
         match way {
             Way::Freeze => entry(&self.frozen, first, second),
@@ -107,7 +107,7 @@ impl Trials {
 fn entry(table: &[Outlook], first: u8, second: Option<u8>) -> Outlook
     requires { (base : NamedSys) × (p : ℕ) × (way : Way) × AreTold base p way table.now × MayFail base first second }
     ensures { (base : NamedSys) (p : ℕ) (way : Way) → AreTold base p way table.now → MayFail base first second →
-        told result ≡ left_of base p way (places first second) }
+        told result ≡ left_of base p way (failing_places first second) }
 {
     let k = first as usize;
     match second {
@@ -176,14 +176,15 @@ fn try_all<L: Ledger>(
     let seats = scenario.base.joint.seats();
     let mut table = vec![in alloc; NOTHING; PLACES * seats as usize]?;
     for j in 0..seats {
-        fill_row(scenario, j, trials, &mut table, steps);
+        fill_outlooks(scenario, j, trials, &mut table, steps);
     }
     Ok(table)
 }
 
-/// Fills the row of the service at place `j` of the table, whose earlier rows are filled. Copies the
-/// row before if the service and the two before are alike, since both rows then have the same outlooks.
-fn fill_row<L: Ledger>(
+/// Fills in the outlooks of the service at place `j` of the table, which has those of the earlier
+/// services. Copies those of the service before if the service and the two before are alike, since
+/// both services then have the same outlooks.
+fn fill_outlooks<L: Ledger>(
     scenario: &Scenario<'_>,
     j: u8,
     trials: &mut Trials,
@@ -191,20 +192,20 @@ fn fill_row<L: Ledger>(
     steps: &mut Steps<L>,
 )
     requires ready { CanTry scenario.now j trials.old table.old }
-    requires rows { (i : ℕ) → i < j → IsToldIn scenario.now i table.old }
+    requires outlooks { (i : ℕ) → i < j → IsToldIn scenario.now i table.old }
     ensures { HasTried scenario.now j table.old table.new trials.new }
 {
     if is_third(scenario.base, scenario.pair, j) {
-        repeat_row(table, j - 1);
+        repeat_outlooks(table, j - 1);
         return;
     }
     try_with(scenario, j, trials, table, steps);
 }
 
-/// Fills the row after that of the service at place `before` with copies from that row. The outlook
-/// without that service alone is stored one place further on. The outlook without it and the
-/// service before it is copied twice.
-fn repeat_row(table: &mut [Outlook], before: u8)
+/// Fills in the outlooks of the service after the one at place `before`, with copies of those of
+/// that one. The outlook without that service alone is stored one place further on. The outlook
+/// without it and the service before it is copied twice.
+fn repeat_outlooks(table: &mut [Outlook], before: u8)
     requires some { (0 < before) × (before < 31) }
     requires room { 32 * before + 64 ≤ length table.old }
     ensures { RepeatsRow before table.old table.new }
@@ -218,7 +219,7 @@ fn repeat_row(table: &mut [Outlook], before: u8)
 }
 
 /// Tries the failure of the service at place `j`, and then the failure of each earlier service on
-/// top of it. Fills the row of the service at place `j` of the table.
+/// top of it. Fills in the outlooks of the service at place `j` of the table.
 fn try_with<L: Ledger>(
     scenario: &Scenario<'_>,
     j: u8,
@@ -237,18 +238,17 @@ fn try_with<L: Ledger>(
         scenario.way,
         steps,
     );
-    let row = PLACES * j as usize;
-    table[row + j as usize] = now(&trials.middle, left);
+    let first = PLACES * j as usize;
+    table[first + j as usize] = now(&trials.middle, left);
     for k in 0..j {
         let outlook = try_second(scenario, j, k, left, trials, table, steps);
-        table[row + k as usize] = outlook;
+        table[first + k as usize] = outlook;
     }
 }
 
 /// Returns the outlook after the services at the places `k` and `j` fail. In `trials`, the middle
 /// is the relation without the service at place `j`, and `left` is the pair that remains there. If
-/// the service at place `k` and the one before are alike, the row of `j` in the table has the
-/// outlook already.
+/// the service at place `k` and the one before are alike, the table has the outlook already.
 fn try_second<L: Ledger>(
     scenario: &Scenario<'_>,
     j: u8,

@@ -11,7 +11,7 @@ ghost use Rattle.roman_joint.specs.Changes.{with_frozen};
 
 use super::Joint;
 use crate::error::SeatError;
-use crate::layout::rows_of;
+use crate::layout::layout_of;
 use crate::seat::{Parts, Seat};
 use roman_model::MAX_SERVICES;
 use roman_radix::Shape;
@@ -37,7 +37,7 @@ impl Joint {
     {
         let _seat = self.seats.remove(k as usize);
         self.shape = self.shape.shrink(k);
-        self.rows = rows_of(&self.shape);
+        self.rows = layout_of(&self.shape);
         let parts = Parts {
             environment: &self.environment,
             catalogue: &self.catalogue,
@@ -71,7 +71,7 @@ impl Joint {
         let Some(shape) = self.shape_with(&seat) else {
             return Err(SeatError::Limit);
         };
-        self.rows = rows_of(&shape);
+        self.rows = layout_of(&shape);
         self.shape = shape;
         self.seats.push_reserved(seat);
         let parts = Parts {

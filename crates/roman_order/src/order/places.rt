@@ -14,7 +14,7 @@ use crate::flags::{first_lane, is_set, lanes_in};
 
 impl Order {
     /// Returns the place of the pair `p` in the list, from 0, or `None` if it isn't listed. Looks
-    /// it up if [`place_all`](Order::place_all) was called since the list last changed, and
+    /// it up if [`stamp_all`](Order::stamp_all) was called since the list last changed, and
     /// otherwise searches for it batch by batch.
     #[tactic(auto, using(crate::proofs::Tables::stamp_rules))]
     pub fn stamp(&self, p: u32) -> Option<u32>
@@ -30,7 +30,7 @@ impl Order {
     /// Indexes the list for constant-time look-up of places, until the list next changes. Makes one
     /// pass over the pairs and one over the entries. Allocates no memory, since the room is
     /// reserved.
-    pub fn place_all(&mut self)
+    pub fn stamp_all(&mut self)
         ensures same { self.new ≡ self.old }
     {
         if self.stamps.is_empty() {

@@ -41,14 +41,14 @@ impl Order {
         ensures rest { ChangesOnlyBefore self.old self.new }
     {
         let from = x as usize;
-        copy_part(&mut self.before, &self.words, from, from + many as usize);
+        copy_between(&mut self.before, &self.words, from, from + many as usize);
     }
 }
 
 /// Copies the words from place `from` up to place `to`, without the one at `to`. Copies a single word
 /// directly.
 #[inline(always)]
-fn copy_part(table: &mut [u64], words: &[u64], from: usize, to: usize)
+fn copy_between(table: &mut [u64], words: &[u64], from: usize, to: usize)
     requires { (from ≤ to) × (to ≤ length table.old) × (to ≤ length words.now) }
     ensures copied { SameWithin from to words.now table.new }
     ensures others { SameOutside from to table.old table.new }

@@ -9,22 +9,22 @@ ghost use Rattle.roman_joint.specs.NamedSys.{system_of};
 ghost use Rattle.roman_order.specs.Board.{ChangesOnlyList, pairs_of};
 ghost use Rattle.roman_order.specs.Batches.{entries_at};
 ghost use Rattle.roman_relation.specs.Greatest.{IsShapedFor, row_lanes};
-ghost use Rattle.roman_repair.specs.Deaths.{IsPartOf, CanDie, CanRename, IsPart, IsWithin, RenamesAll, entries_from, sizes_left};
+ghost use Rattle.roman_repair.specs.Deaths.{IsGroupOf, CanDie, CanRename, IsGroup, IsWithin, RenamesAll, entries_from, sizes_left};
 ghost use Rattle.roman_joint.specs.Pairs.{joint_pairs, joint_pair};
 
-use crate::lanes::first_part;
+use crate::lanes::first_group;
 use roman_joint::Joint;
 use roman_model::Reason;
 use roman_order::{Batch, Order};
 use roman_radix::Shape;
 use roman_rules::Rules;
 
-/// Returns the width of the parts into which rows are split when the service `k` dies: the number
-/// of neighbouring pairs of a part, from 1 to 64. Within a part the service has one state, and the
-/// renamed pairs of the part lie in one row.
-fn part_width(shape: &Shape, k: u8) -> u32
+/// Returns the width of the groups into which rows are split when the service `k` dies: the number
+/// of neighbouring pairs of a group, from 1 to 64. Within a group the service has one state, and the
+/// renamed pairs of the group lie in one row.
+fn group_width(shape: &Shape, k: u8) -> u32
     requires { k < length shape.now.seats }
-    ensures part { IsPart shape.now.seats k result }
+    ensures group { IsGroup shape.now.seats k result }
     ensures few { (0 < result) × (result ≤ 64) }
 {
     shape.known(); // no size is 0
@@ -56,11 +56,11 @@ fn may_go(joint: &Joint, k: u8, p: u32) -> bool
     !rests || joint.behaviour(k).is_final(joint.shape().part_of(p, k))
 }
 
-/// Renames the entries for pairs of one part, and appends them to the list: one for each renamed
+/// Renames the entries for pairs of one group, and appends them to the list: one for each renamed
 /// pair that has no entry yet. Appends nothing if the service may not leave its state behind. The
 /// bits of `word` give the pairs, counted from `first`.
 #[tactic(auto, using(crate::proofs::DeathEntries::left_row))]
-fn rename_part(
+fn rename_group(
     joint: &Joint,
     order: &mut Order,
     leaver: Leaver,
@@ -69,7 +69,7 @@ fn rename_part(
     reason: Reason,
 )
     requires ready { CanRename joint.now leaver order.old }
-    requires part { IsPartOf joint.now leaver first word }
+    requires group { IsGroupOf joint.now leaver first word }
     ensures list { RenamesAll joint.now leaver (entries_from first word reason) order.old order.new }
     ensures rest { ChangesOnlyList order.old order.new }
 {
@@ -84,7 +84,7 @@ fn rename_part(
     order.push_on(x, lost, reason);
 }
 
-/// Renames the entries of the batch, part by part. For each renamed pair that has no entry yet,
+/// Renames the entries of the batch, group by group. For each renamed pair that has no entry yet,
 /// appends the first entry in which the service may leave its state behind.
 fn rename_row(joint: &Joint, order: &mut Order, leaver: Leaver, batch: Batch)
     requires ready { CanRename joint.now leaver order.old }
@@ -94,12 +94,12 @@ fn rename_row(joint: &Joint, order: &mut Order, leaver: Leaver, batch: Batch)
 {
     let shape = joint.shape();
     shape.known(); // no size is 0, a pair's number fits in 32 bits
-    let width = part_width(shape, leaver.k);
+    let width = group_width(shape, leaver.k);
     let first = batch.row * joint.lanes();
     let mut left = batch.lanes;
     'left: while left != 0 {
-        let (i, part, rest) = first_part(left, width);
-        rename_part(joint, order, leaver, first + i * width, part, batch.reason);
+        let (i, group, rest) = first_group(left, width);
+        rename_group(joint, order, leaver, first + i * width, group, batch.reason);
         left = rest;
     }
 }

@@ -5,13 +5,13 @@ use Rattle.roman_cert.proofs.lines.push_lost.Goals as goal
 
 pub returns-in_err-push-clause-gathers : goal.returns-in_err-push-clause-gathers
 returns-in_err-push-clause-gathers g c =
-    let begins = lost_begins c.args.joint.now (as_entry (c.args.p, c.args.reason)) c.bytes.result.now (c.bytes.ensures ∙ c.parts_piece-parts.ensures) in
+    let begins = lost_begins c.args.joint.now (as_entry (c.args.p, c.args.reason)) c.bytes.result.now (c.bytes.ensures ∙ c.pair_piece-pair.ensures) in
     let p = err_from_is_err_and c.from_residual.result c.from_residual.ensures.1 in
     rw p.1 (fill_failed _ _ _ _ _ _ _ (fill_behind _ _ _ _ begins) c.in_err-push.ensures.gathers.0, c.in_err-push.ensures.gathers.1)
 
 pub loop-k-init : goal.loop-k-init
 loop-k-init g c =
-    let begins = lost_begins c.args.joint.now (as_entry (c.args.p, c.args.reason)) c.bytes.result.now (c.bytes.ensures ∙ c.parts_piece-parts.ensures) in
+    let begins = lost_begins c.args.joint.now (as_entry (c.args.p, c.args.reason)) c.bytes.result.now (c.bytes.ensures ∙ c.pair_piece-pair.ensures) in
     record { filling = fill_more _ _ _ _ _ _ _ _ (fill_behind _ _ _ _ begins) c.in_ok-push.ensures.gathers; cause = c.in_ok-push.ensures.cause.stays }
 
 pub returns-in_err-push-2-clause-gathers : goal.returns-in_err-push-2-clause-gathers

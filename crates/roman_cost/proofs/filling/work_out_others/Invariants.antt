@@ -1,4 +1,4 @@
-use Rattle.roman_cost.proofs.Common.{◌≡◌, ℕ, suc, ◌++◌, map, take, least_at, system_of, seat_costs, IsCostRow}
+use Rattle.roman_cost.proofs.Common.{◌≡◌, ℕ, suc, ◌++◌, map, take, least_at, system_of, seat_costs, AreLeastCosts}
 use Rattle.roman_cost.proofs.filling.work_out_others.Given as goal
 
 -- the values of the pairs so far
@@ -7,4 +7,4 @@ invariant-loop-p l =
     let n = l.relation.joint in
     let s = system_of n in
     let C = seat_costs n l.costs.listed in
-    (h : ℕ) → IsCostRow s C h l.ranks l.row → l.values.items ≡ l.initial.values.items ++ map (least_at s C (suc h)) (take l.p-index l.others)
+    (h : ℕ) → AreLeastCosts s C h l.ranks l.later → l.values.items ≡ l.initial.values.items ++ map (least_at s C (suc h)) (take l.p-index l.others)

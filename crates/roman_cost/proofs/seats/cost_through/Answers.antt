@@ -10,13 +10,13 @@ cost-cost-requires-clause-action c =
 
 pub greatest_outcome-requires : goal.greatest_outcome-requires
 greatest_outcome-requires c =
-    let (h, row) = c.requires.row in
-    are_outcomes _ _ _ _ _ c.outcomes-outcomes.ensures.numbers c.requires.offered.some (offered_ranked _ _ _ _ _ _ _ _ c.requires.offered row) c.outcomes-outcomes.ensures.places c.outcomes-outcomes.ensures.few
+    let (h, later) = c.requires.later in
+    are_outcomes _ _ _ _ _ c.outcomes-outcomes.ensures.numbers c.requires.offered.some (offered_ranked _ _ _ _ _ _ _ _ c.requires.offered later) c.outcomes-outcomes.ensures.places c.outcomes-outcomes.ensures.few
 
 pub overflow_add-result : goal.overflow_add-result
 overflow_add-result c =
-    let (h, row) = c.requires.row in
-    grind (arith, (cost_is _ _ _ _ _ _ _ _ c.requires.offered row), (through_fits _ _ h c.args.a c.args.k (pair_at (sizes_of (system_of c.args.joint.now)) c.args.p) _ _ row))
+    let (h, later) = c.requires.later in
+    grind (arith, (cost_is _ _ _ _ _ _ _ _ c.requires.offered later), (through_fits _ _ h c.args.a c.args.k (pair_at (sizes_of (system_of c.args.joint.now)) c.args.p) _ _ later))
 
 pub returns : goal.returns
-returns c = λ h row. grind (arith, (cost_is _ _ _ _ _ _ _ _ c.requires.offered row))
+returns c = λ h later. grind (arith, (cost_is _ _ _ _ _ _ _ _ c.requires.offered later))

@@ -1,6 +1,6 @@
 use Rattle.roman_cost.proofs.Common.{◌<◌, arith, sizes_of, pair_at, numbered, allowed_in_range, system_of}
 use Rattle.roman_cost.proofs.OfferedSeats.{are_outcomes}
-use Rattle.roman_cost.proofs.Rows.{all_from}
+use Rattle.roman_cost.proofs.Values.{all_from}
 use Rattle.roman_cost.proofs.terms.push_service.Goals as goal
 
 pub cost-cost-requires-clause-action : goal.cost-cost-requires-clause-action

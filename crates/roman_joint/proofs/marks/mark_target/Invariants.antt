@@ -1,4 +1,4 @@
-use Rattle.roman_joint.proofs.Common.{◌/◌, sum_by, below, system_of, band_in, AnyOf, IsBeforeSeat, IsMarked, Marks, row_at, seat_steps}
+use Rattle.roman_joint.proofs.Common.{◌/◌, sum_by, below, system_of, band_in, AnyOf, IsBeforeSeat, IsMarked, Marks, row_at, seat_work}
 use Rattle.roman_joint.proofs.marks.mark_target.Given as goal
 
 -- the band of the seats that kept their states is marked, and the bands of the seats so far
@@ -8,5 +8,5 @@ invariant-loop-k g l =
     let at = row_at s l.by.row.now l.by.env l.t in
     record {
       own : IsMarked l.marks (at / band_in s);
-      seats : Marks (AnyOf (IsBeforeSeat s l.by.row.now l.by.action l.by.env at) (below l.k)) (sum_by (seat_steps s l.by.row.now l.by.action l.by.env) (below l.k)) l.fn.marks l.marks l.fn.steps l.steps;
+      seats : Marks (AnyOf (IsBeforeSeat s l.by.row.now l.by.action l.by.env at) (below l.k)) (sum_by (seat_work s l.by.row.now l.by.action l.by.env) (below l.k)) l.fn.marks l.marks l.fn.steps l.steps;
     }

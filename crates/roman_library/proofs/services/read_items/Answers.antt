@@ -1,12 +1,12 @@
 -- A service that is read is appended to those before it, and an error of a service is the result of all services.
-use Rattle.roman_library.proofs.Common.{Err, None, arith, map, refl, rules, ◌≡◌, err_from_is_err_and, goes_on, is_done, place_of, view, service_of, service_step, IsService, service_name, Service}
+use Rattle.roman_library.proofs.Common.{Err, None, arith, map, refl, rules, ◌≡◌, err_from_is_err_and, goes_on, is_done, place_of, view, service_of, with_service_read, IsService, service_name, Service}
 use Rattle.roman_library.proofs.LocatedLemmas.{located_holds, located_loads, located_ok, stops_all, stops_left}
 use Rattle.roman_library.specs.declared.refusal.Part.TheVariants as part
 use Rattle.roman_library.proofs.LibraryLemmas.{AreServices-push}
 use Rattle.roman_library.proofs.services.read_items.Goals as goal
 
 pub returns-in_err-service-clause-services : goal.returns-in_err-service-clause-services
-unfolding service_step
+unfolding with_service_read
 returns-in_err-service-clause-services c = record {
   loads =
       let p = err_from_is_err_and c.from_residual-in_err-service.result c.from_residual-in_err-service.ensures.1 in
@@ -19,7 +19,7 @@ returns-in_err-service-clause-services c = record {
 }
 
 pub loop-i-preserved : goal.loop-i-preserved
-unfolding service_step
+unfolding with_service_read
 loop-i-preserved c =
     let i = c.loop-i.i in
     let x = c.index-items-i.result in

@@ -1,6 +1,6 @@
 use Rattle.roman_repair.proofs.Common.{sym, subst, remove, Sys, Die, numbered, system_of, lanes_in, IsShaped}
 use Rattle.roman_repair.proofs.Repairing.{relation_replays, repaired_from}
-use Rattle.roman_repair.proofs.DeathParts.{seat_there}
+use Rattle.roman_repair.proofs.DeathGroups.{seat_there}
 use Rattle.roman_repair.proofs.DeathEntries.{left_shaped}
 use Rattle.roman_repair.proofs.Waiting.{whole_replay, whole_begun}
 use Rattle.roman_repair.proofs.dying.die.Goals as goal

@@ -1,5 +1,5 @@
 use Rattle.roman_opening.specs.declared.status.Status.TheVariants as status
-use Rattle.roman_top.proofs.Common.{List, ℕ, EndsSaying, OnCosts, Status, costs_of, place_of_rule, refusal_line, refusal_of, IfSome_then, same_outputs, opens_fault, opens_none}
+use Rattle.roman_top.proofs.Common.{List, ℕ, EndsSaying, OnCosts, Status, costs_of, list_of_rule, refusal_line, refusal_of, IfSome_then, same_outputs, opens_fault, opens_none}
 use Rattle.roman_library.specs.declared.refusal.Part.TheVariants as part
 use Rattle.roman_parts.specs.declared.error.PartError.TheVariants as part_error
 use Rattle.roman_top.proofs.OpeningLemmas.{early_from}
@@ -15,7 +15,7 @@ pub returns-in-Err-Refused-clause-opens : goal.returns-in-Err-Refused-clause-ope
 returns-in-Err-Refused-clause-opens g c =
     let r = c.in-Err-Refused in
     let same = same_outputs _ _ _ _ (g.O.Sink.written c.args.out.now) (g.O.Sink.faults c.args.out.now) c.read_costs.ensures.texts (rw r.field-0-is at r.ensures.cause) in
-    let refusal = refusal_of c.args.name.now part.Costs (part_error.Refused r.kind (place_of_rule r.whole) r.index) in
+    let refusal = refusal_of c.args.name.now part.Costs (part_error.Refused r.kind (list_of_rule r.whole) r.index) in
     early_from _ _ _ _ _ c.refuse.result same
     (IfSome_then _ {Q = (λ texts. (text : List ℕ) (ends : Status) → EndsSaying (refusal_line refusal) status.Refused text ends → OnCosts c.args.name.now (λ listed out result. ⊥) (costs_of texts c.args.name.now c.args.joint.now) text ends)}
     (rw r.field-0-is at r.ensures.costs) (λ texts means text ends says. rw means says)) (c.refuse.ensures _ _)

@@ -6,5 +6,5 @@ abbrev pub invariant-loop-j : goal.invariant-loop-j
 invariant-loop-j g l = record {
   trials : AreTrialsOf l.scenario.base.now.joint l.trials;
   room : length l.table.items ≡ 32 * length l.scenario.base.now.joint.seats;
-  rows : (i : ℕ) → i < l.j → IsToldOf l.scenario.base.now.joint l.scenario.pair l.scenario.way i l.table.items;
+  outlooks : (i : ℕ) → i < l.j → IsToldOf l.scenario.base.now.joint l.scenario.pair l.scenario.way i l.table.items;
 }

@@ -1,6 +1,6 @@
-use Rattle.roman_cost.proofs.Common.{◌≡◌, suc, system_of, value_rows, seat_costs}
+use Rattle.roman_cost.proofs.Common.{◌≡◌, suc, system_of, values_below, seat_costs}
 use Rattle.roman_cost.proofs.advice.Advice.build.Given as goal
 
--- the rows so far
+-- the values so far
 abbrev pub invariant-loop-done : goal.invariant-loop-done
-invariant-loop-done l = l.values.items ≡ value_rows (system_of l.relation.joint) (seat_costs l.relation.joint l.costs.listed) l.pairs.items (suc l.done)
+invariant-loop-done l = l.values.items ≡ values_below (system_of l.relation.joint) (seat_costs l.relation.joint l.costs.listed) l.pairs.items (suc l.done)

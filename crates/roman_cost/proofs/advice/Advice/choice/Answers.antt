@@ -1,8 +1,8 @@
-use Rattle.roman_cost.proofs.Common.{◌≡◌, ◌≤◌, ◌-◌, ℕ, Bool, length, arith, IsSome, sym, ap, ◌∙◌, subst, refl, has, offers, has_seat_is, least, through, pair_at, sizes_of, same_Some, system_of, seat_costs, AdviceTable, HavePlaces, IsCostRow, MAX_REQUESTS}
+use Rattle.roman_cost.proofs.Common.{◌≡◌, ◌≤◌, ◌-◌, ℕ, Bool, length, arith, IsSome, sym, ap, ◌∙◌, subst, refl, has, offers, has_seat_is, least, through, pair_at, sizes_of, same_Some, system_of, seat_costs, AdviceTable, HavePlaces, AreLeastCosts, MAX_REQUESTS}
 use Rattle.roman_cost.proofs.Best.{best_of-taken, best_of-passed}
 use Rattle.roman_cost.proofs.CostLemmas.{seat_costs_small}
 use Rattle.roman_cost.proofs.OfferedSeats.{told_offered, best_chosen}
-use Rattle.roman_cost.proofs.Rows.{table_is_row}
+use Rattle.roman_cost.proofs.Values.{table_has_costs}
 use Rattle.roman_cost.proofs.advice.Advice.choice.Goals as goal
 use Rattle.roman_cost.proofs.advice.Advice.choice.Goals.{then-has, else-has}
 
@@ -10,15 +10,15 @@ pub cost_through-cost-requires-clause-offered : goal.cost_through-cost-requires-
 cost_through-cost-requires-clause-offered c =
     told_offered (system_of c.args.relation.now.joint) c.args.p c.args.a c.loop-k.k _ _ c.known.ensures.system c.requires.known.pair c.offers-offered.ensures.offers (omega arith) c.has.ensures c.if-has.true
 
-pub cost_through-cost-requires-clause-row : goal.cost_through-cost-requires-clause-row
-cost_through-cost-requires-clause-row c =
+pub cost_through-cost-requires-clause-later : goal.cost_through-cost-requires-clause-later
+cost_through-cost-requires-clause-later c =
     let n = c.args.relation.now.joint in
     let C = seat_costs n c.args.costs.now.listed in
     let few : c.args.self.now.requests ≤ MAX_REQUESTS = subst (λ (t : AdviceTable). t.requests ≤ MAX_REQUESTS) c.self.view_is c.self.invariant.few in
     let places : HavePlaces c.args.self.now.pairs c.deref-ranks.result.now = rw c.deref-ranks.ensures.value (subst (λ (t : AdviceTable). HavePlaces t.pairs c.self.inside.ranks.items) c.self.view_is c.self.invariant.ranks) in (
       c.args.h - 1,
-      table_is_row (system_of n) C c.args.self.now _ _ (c.args.h - 1) c.known.ensures.system (seat_costs_small n c.args.costs.now.listed c.known-2.ensures) (omega (arith, few))
-          c.requires.known.advises places (c.row-row.ensures.row (system_of n) C c.requires.known.advises),
+      table_has_costs (system_of n) C c.args.self.now _ _ (c.args.h - 1) c.known.ensures.system (seat_costs_small n c.args.costs.now.listed c.known-2.ensures) (omega (arith, few))
+          c.requires.known.advises places (c.least_costs-later.ensures.values (system_of n) C c.requires.known.advises),
     )
 
 pub loop-k-preserved : goal.loop-k-preserved
@@ -27,9 +27,9 @@ loop-k-preserved c =
     let C = seat_costs n c.args.costs.now.listed in
     let few : c.args.self.now.requests ≤ MAX_REQUESTS = subst (λ (t : AdviceTable). t.requests ≤ MAX_REQUESTS) c.self.view_is c.self.invariant.few in
     let places : HavePlaces c.args.self.now.pairs c.deref-ranks.result.now = rw c.deref-ranks.ensures.value (subst (λ (t : AdviceTable). HavePlaces t.pairs c.self.inside.ranks.items) c.self.view_is c.self.invariant.ranks) in
-    let row : IsCostRow (system_of n) C (c.args.h - 1) c.deref-ranks.result.now c.row-row.result.now =
-    table_is_row (system_of n) C c.args.self.now _ _ (c.args.h - 1) c.known.ensures.system (seat_costs_small n c.args.costs.now.listed c.known-2.ensures) (omega (arith, few))
-    c.requires.known.advises places (c.row-row.ensures.row (system_of n) C c.requires.known.advises) in
+    let later : AreLeastCosts (system_of n) C (c.args.h - 1) c.deref-ranks.result.now c.least_costs-later.result.now =
+    table_has_costs (system_of n) C c.args.self.now _ _ (c.args.h - 1) c.known.ensures.system (seat_costs_small n c.args.costs.now.listed c.known-2.ensures) (omega (arith, few))
+    c.requires.known.advises places (c.least_costs-later.ensures.values (system_of n) C c.requires.known.advises) in
     let p = pair_at (sizes_of (system_of n)) c.args.p in
     let cost : ℕ → ℕ = through (system_of n) C (least (system_of n) C (c.args.h - 1)) p c.args.a in
     let test : ℕ → Bool = has (offers (system_of n) p c.args.a) in
@@ -37,7 +37,7 @@ loop-k-preserved c =
     elim c.if-has.branch [
       | then-has w ↦
           w.best-is ∙ best_of-taken cost test c.loop-k.k w.cost_through-cost.result c.loop-k.best w.better-best.result (sym told ∙ w.if-has.true) c.loop-k.invariant
-          (w.cost_through-cost.ensures (c.args.h - 1) row) w.better-best.ensures
+          (w.cost_through-cost.ensures (c.args.h - 1) later) w.better-best.ensures
       | else-has w ↦ w.best-is ∙ best_of-passed cost test c.loop-k.k c.loop-k.best (sym told ∙ w.if-has.false) c.loop-k.invariant
     ]
 

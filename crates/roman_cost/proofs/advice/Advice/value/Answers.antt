@@ -7,17 +7,17 @@ index-rank-requires c =
     let there : IsIn c.args.p c.self.inside.pairs.items = subst (λ (t : AdviceTable). IsIn c.args.p t.pairs) (sym c.self.view_is) c.requires.related in
     omega (arith, c.self.invariant.ranks.within c.args.p there, c.self.inside.ranks.ok.0)
 
-pub bounds-row-rank : goal.bounds-row-rank
-bounds-row-rank c =
+pub bounds-least_costs-rank : goal.bounds-least_costs-rank
+bounds-least_costs-rank c =
     let there : IsIn c.args.p c.self.inside.pairs.items = subst (λ (t : AdviceTable). IsIn c.args.p t.pairs) (sym c.self.view_is) c.requires.related in
     let rank = get_or_read c.self.inside.ranks.items _ _ (c.self.invariant.ranks.within c.args.p there) c.index-rank.ensures 0 in
     let less = c.self.invariant.ranks.below c.args.p there in
-    omega (arith, rank, less, c.row.ensures.len, ap (λ (t : AdviceTable). length t.pairs) c.self.view_is)
+    omega (arith, rank, less, c.least_costs.ensures.len, ap (λ (t : AdviceTable). length t.pairs) c.self.view_is)
 
 pub returns : goal.returns
 returns c = λ s C says.
     let there : IsIn c.args.p c.self.inside.pairs.items = subst (λ (t : AdviceTable). IsIn c.args.p t.pairs) (sym c.self.view_is) c.requires.related in
     let rank : c.index-rank.result.now ≡ slice_index c.self.inside.ranks.items c.args.p =
     get_or_read c.self.inside.ranks.items _ _ (c.self.invariant.ranks.within c.args.p there) c.index-rank.ensures 0 in
-    let row : c.row.result.now ≡ map (least_at s C c.args.h) c.self.inside.pairs.items = c.row.ensures.row s C says ∙ ap (λ (t : AdviceTable). map (least_at s C c.args.h) t.pairs) (sym c.self.view_is) in
-    ap (slice_index c.row.result.now) rank ∙ ranked_value s C c.args.h c.self.inside.pairs.items c.self.inside.ranks.items c.row.result.now c.args.p c.self.invariant.ranks there row
+    let values : c.least_costs.result.now ≡ map (least_at s C c.args.h) c.self.inside.pairs.items = c.least_costs.ensures.values s C says ∙ ap (λ (t : AdviceTable). map (least_at s C c.args.h) t.pairs) (sym c.self.view_is) in
+    ap (slice_index c.least_costs.result.now) rank ∙ ranked_value s C c.args.h c.self.inside.pairs.items c.self.inside.ranks.items c.least_costs.result.now c.args.p c.self.invariant.ranks there values

@@ -9,7 +9,7 @@ invariant_of-self c =
     is_joint _ (with_seats n (remove n.seats c.args.k)) (ap (with_seats n) c.remove-seat.ensures.items) (record {
       known = grind (arith, gone_known);
       shape = sizes;
-      rows = rw sizes at c.rows_of-self-inside.ensures;
+      rows = rw sizes at c.layout_of-self-inside.ensures;
       moves = rw (c.deref.ensures.value, c.deref-2.ensures.value, c.remove-seat.ensures.items) at c.fill.ensures;
       target_views = c.self.invariant.target_views;
       room = omega (arith, c.remove-seat.ensures.capacity, c.self.invariant.room);

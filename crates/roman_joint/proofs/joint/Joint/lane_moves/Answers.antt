@@ -30,11 +30,11 @@ stands c =
 pub index-span-requires : goal.index-span-requires
 index-span-requires c = omega (arith, (stands (goal.at.index-span-requires c).After-from-5).inside, c.table-table.result.now.spans.ok.0)
 
-pub part-requires-clause-order : goal.part-requires-clause-order
-part-requires-clause-order c = ((stands (goal.at.part-requires-clause-order c).After-from-5).span c.index-span.result.now c.index-span.ensures).first
+pub moves_between-requires-clause-order : goal.moves_between-requires-clause-order
+moves_between-requires-clause-order c = ((stands (goal.at.moves_between-requires-clause-order c).After-from-5).span c.index-span.result.now c.index-span.ensures).first
 
-pub part-requires-clause-within : goal.part-requires-clause-within
-part-requires-clause-within c = rw c.deref.ensures.value ((stands (goal.at.part-requires-clause-within c).After-from-5).span c.index-span.result.now c.index-span.ensures).last
+pub moves_between-requires-clause-within : goal.moves_between-requires-clause-within
+moves_between-requires-clause-within c = rw c.deref.ensures.value ((stands (goal.at.moves_between-requires-clause-within c).After-from-5).span c.index-span.result.now c.index-span.ensures).last
 
 frozen_next : (o : Option Seat) (seat : Seat) (b e a : ℕ) → o ≡ Some seat → IsTrue seat.frozen → seat_next o b e a ≡ []
 frozen_next o seat b e a is frozen = ap (λ x. seat_next x b e a) is ∙ ap (λ f. cond f [] (beh_next seat.beh b e a)) frozen
@@ -57,7 +57,7 @@ returns c =
     let seat = seat_of n.catalogue c.seat.result.now in
     let seated = seat_read n c.args.k _ c.seat.ensures in
     let next = λ (f : Bool) (b : ℕ). cond f [] (beh_next seat.beh b c.args.e c.args.a) in
-    subst (λ o. AreLaneMoves (sizes_of (system_of n)) c.args.k (λ b. seat_next o b c.args.e c.args.a) c.index-span.result.now.some c.part.result.now) (sym seated)
-    (subst (λ f. AreLaneMoves (sizes_of (system_of n)) c.args.k (next f) c.index-span.result.now.some c.part.result.now) (sym c.if-seat.false)
-    (rw (c.part.ensures, c.deref.ensures.value)
+    subst (λ o. AreLaneMoves (sizes_of (system_of n)) c.args.k (λ b. seat_next o b c.args.e c.args.a) c.index-span.result.now.some c.moves_between.result.now) (sym seated)
+    (subst (λ f. AreLaneMoves (sizes_of (system_of n)) c.args.k (next f) c.index-span.result.now.some c.moves_between.result.now) (sym c.if-seat.false)
+    (rw (c.moves_between.ensures, c.deref.ensures.value)
     (((stands (goal.at.returns c).After-from-5).span c.index-span.result.now c.index-span.ensures).moves_of c.args.e c.args.a c.args.k seat refl c.requires.action c.requires.within seated)))

@@ -22,7 +22,7 @@ invariant_of-self c =
     is_joint _ (with_seats n (n.seats ++ c.args.seat ∷ [])) (ap (with_seats n) c.push_reserved.ensures.items) (record {
       known = joined at;
       shape = sizes at;
-      rows = rw (sizes at) at c.rows_of-self-inside.ensures;
+      rows = rw (sizes at) at c.layout_of-self-inside.ensures;
       moves = rw (c.deref.ensures.value, c.deref-2.ensures.value, c.push_reserved.ensures.items) at c.fill.ensures;
       target_views = c.self.invariant.target_views;
       room = omega (arith, c.push_reserved.ensures.capacity, c.self.invariant.room);

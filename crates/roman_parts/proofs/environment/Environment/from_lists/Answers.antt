@@ -9,13 +9,13 @@ invariant_of-result c =
     (rw (← c.len-height.ensures.len, ← c.len-width.ensures.len) (omega (arith, c.in_ok-triple_masks.ensures.len))) (rw (← c.len-height.ensures.len, ← c.len-width.ensures.len) (omega (arith, c.in_ok-triple_masks-2.ensures.len)))
     (rw (← c.len-width.ensures.len) c.in_ok-triple_masks.ensures.has) (rw (← c.len-width.ensures.len) c.in_ok-triple_masks-2.ensures.has) in
     rw (
-      c.in_ok-next.ensures.rows,
+      c.in_ok-next.ensures.lists,
       c.deref.ensures.value,
-      c.in_ok-prev.ensures.rows,
+      c.in_ok-prev.ensures.lists,
       c.deref-2.ensures.value,
       laid.env,
     )
-    laid.rows
+    laid.lists
 
 pub returns : goal.returns
 returns c =
@@ -23,4 +23,4 @@ returns c =
     c.requires.states c.requires.actions c.requires.start c.requires.steps
     (rw (← c.len-height.ensures.len, ← c.len-width.ensures.len) (omega (arith, c.in_ok-triple_masks.ensures.len))) (rw (← c.len-height.ensures.len, ← c.len-width.ensures.len) (omega (arith, c.in_ok-triple_masks-2.ensures.len)))
     (rw (← c.len-width.ensures.len) c.in_ok-triple_masks.ensures.has) (rw (← c.len-width.ensures.len) c.in_ok-triple_masks-2.ensures.has) in
-    rw (c.in_ok-next.ensures.rows, c.deref.ensures.value, laid.env) refl
+    rw (c.in_ok-next.ensures.lists, c.deref.ensures.value, laid.env) refl

@@ -1,5 +1,5 @@
 use Rattle.roman_repair.proofs.Common.{◌<◌, ◌||◌, not, ap, ◌∙◌, subst, arith, slice_index, Sizes, count, pair_at, is_final}
-use Rattle.roman_repair.proofs.DeathParts.{loose_goes, final_goes, size_is}
+use Rattle.roman_repair.proofs.DeathGroups.{loose_goes, final_goes, size_is}
 use Rattle.roman_repair.proofs.dying.renaming.may_go.Goals as goal
 
 pub part_of-requires-clause-pair : goal.part_of-requires-clause-pair

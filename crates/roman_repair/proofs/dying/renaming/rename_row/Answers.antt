@@ -1,7 +1,7 @@
 use Rattle.roman_repair.proofs.Common.{◌++◌, ◌+◌, ◌*◌, sym, ap, ◌∙◌, subst, arith, count, system_of, lanes_in, Board, entries_in, entries_at, entries_from, Renames, some_lane}
-use Rattle.roman_repair.proofs.DeathParts.{part_in, row_in}
+use Rattle.roman_repair.proofs.DeathGroups.{group_in, row_in}
 use Rattle.roman_repair.proofs.DeathEntries.{renames_both, renames_front}
-use Rattle.roman_repair.proofs.Fronts.{part_entries}
+use Rattle.roman_repair.proofs.Fronts.{group_entries}
 use Rattle.roman_repair.proofs.Replayed.{no_entries}
 use Rattle.roman_repair.proofs.dying.renaming.rename_row.Goals as goal
 
@@ -12,30 +12,30 @@ overflow_mul-first c =
 
 pub overflow_mul-i : goal.overflow_mul-i
 overflow_mul-i c =
-    let here = part_in c.args.joint.now _ c.args.batch _ _ _ _ _ _ _ c.requires.within c.shape-shape.ensures c.requires.ready.seat (ap (λ m. c.args.batch.row * m) c.lanes.ensures.value) c.part_width-width.ensures.part c.left.invariant.within c.first_part-i.ensures in
+    let here = group_in c.args.joint.now _ c.args.batch _ _ _ _ _ _ _ c.requires.within c.shape-shape.ensures c.requires.ready.seat (ap (λ m. c.args.batch.row * m) c.lanes.ensures.value) c.group_width-width.ensures.group c.left.invariant.within c.first_group-i.ensures in
     omega (arith, here.inside, ap count c.shape-shape.ensures, c.known.ensures.counted)
 
 pub overflow_add-first : goal.overflow_add-first
 overflow_add-first c =
-    let here = part_in c.args.joint.now _ c.args.batch _ _ _ _ _ _ _ c.requires.within c.shape-shape.ensures c.requires.ready.seat (ap (λ m. c.args.batch.row * m) c.lanes.ensures.value) c.part_width-width.ensures.part c.left.invariant.within c.first_part-i.ensures in
+    let here = group_in c.args.joint.now _ c.args.batch _ _ _ _ _ _ _ c.requires.within c.shape-shape.ensures c.requires.ready.seat (ap (λ m. c.args.batch.row * m) c.lanes.ensures.value) c.group_width-width.ensures.group c.left.invariant.within c.first_group-i.ensures in
     omega (arith, here.inside, ap count c.shape-shape.ensures, c.known.ensures.counted)
 
-pub rename_part-requires-clause-part : goal.rename_part-requires-clause-part
-rename_part-requires-clause-part c =
-    part_in c.args.joint.now _ c.args.batch _ _ _ _ _ _ _ c.requires.within c.shape-shape.ensures c.requires.ready.seat (ap (λ m. c.args.batch.row * m) c.lanes.ensures.value) c.part_width-width.ensures.part c.left.invariant.within c.first_part-i.ensures
+pub rename_group-requires-clause-group : goal.rename_group-requires-clause-group
+rename_group-requires-clause-group c =
+    group_in c.args.joint.now _ c.args.batch _ _ _ _ _ _ _ c.requires.within c.shape-shape.ensures c.requires.ready.seat (ap (λ m. c.args.batch.row * m) c.lanes.ensures.value) c.group_width-width.ensures.group c.left.invariant.within c.first_group-i.ensures
 
 pub left-preserved : goal.left-preserved
 left-preserved c =
     let n = lanes_in (system_of c.args.joint.now) in
     let e = c.args.batch in
-    let w = c.part_width-width.result in
-    let (i, part, rest) = c.first_part-i.result in
-    let parts = part_entries n e.row c.left.left w i part rest e.reason c.first_part-i.ensures ∙ ap (λ m. entries_from (e.row * m + i * w) part e.reason ++ entries_in n e.row rest e.reason) (sym c.lanes.ensures.value) in
+    let w = c.group_width-width.result in
+    let (i, group, rest) = c.first_group-i.result in
+    let parts = group_entries n e.row c.left.left w i group rest e.reason c.first_group-i.ensures ∙ ap (λ m. entries_from (e.row * m + i * w) group e.reason ++ entries_in n e.row rest e.reason) (sym c.lanes.ensures.value) in
     record {
-      renamed = renames_both _ _ _ _ _ _ _ _ c.left.invariant.renamed (renames_front _ _ _ _ _ _ _ parts c.rename_part.ensures.list);
-      rest = c.rename_part.ensures.rest ∙ ap (λ (b : Board). record b { list = c.rename_part.new.order.list }) c.left.invariant.rest;
-      within = λ lane on. c.left.invariant.within lane (c.first_part-i.ensures.in_rest lane on);
-      some = λ ne. some_lane rest ne c.first_part-i.ensures.fits;
+      renamed = renames_both _ _ _ _ _ _ _ _ c.left.invariant.renamed (renames_front _ _ _ _ _ _ _ parts c.rename_group.ensures.list);
+      rest = c.rename_group.ensures.rest ∙ ap (λ (b : Board). record b { list = c.rename_group.new.order.list }) c.left.invariant.rest;
+      within = λ lane on. c.left.invariant.within lane (c.first_group-i.ensures.in_rest lane on);
+      some = λ ne. some_lane rest ne c.first_group-i.ensures.fits;
     }
 
 pub returns-clause-list : goal.returns-clause-list
