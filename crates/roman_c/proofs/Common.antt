@@ -1,5 +1,5 @@
 -- Re-exports the names that the proof pages of this crate use from other crates. Declares nothing.
-pub use Rattle.std.proofs.Common.{List, [], ap, arith, lit<, map, refl, subst, sym, ℕ, ◌++◌, ◌<◌, ◌∙◌, ◌∷◌, ◌≡◌, ◌≤◌}
+pub use Rattle.std.proofs.Common.{List, [], ap, arith, lit<, map, refl, rules, subst, sym, ℕ, ◌++◌, ◌<◌, ◌∙◌, ◌∷◌, ◌≡◌, ◌≤◌}
 pub use Rattle.std.proofs.Crossing.{frees}
 pub use Rattle.std.proofs.lemmas.List.{length-map}
 pub use Rattle.std.proofs.raw_atomic.Walks.{leaves, proved_at}

@@ -1,4 +1,4 @@
-use Rattle.roman_c.proofs.Common.{ap, reply_in}
+use Rattle.roman_c.proofs.Common.{ap, reply_in, rules}
 use Rattle.roman_c.proofs.JobLemmas.{memory_done, missing_done}
 use Rattle.roman_c.proofs.worked.Goals as goal
 

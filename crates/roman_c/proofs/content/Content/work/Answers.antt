@@ -1,4 +1,4 @@
-use Rattle.roman_c.proofs.Common.{refl}
+use Rattle.roman_c.proofs.Common.{refl, rules}
 use Rattle.roman_c.proofs.JobLemmas.{missing_done}
 use Rattle.roman_c.proofs.content.Content.work.Goals as goal
 
