@@ -26,12 +26,16 @@ class Background:
 
     def __init__(self) -> None:
         self._tasks: set[asyncio.Task[Any]] = set()
+        self._is_closed = False
 
     def run(self, work: Coroutine[Any, Any, Value]) -> asyncio.Task[Value]:
-        """Runs a coroutine in the background, and logs unexpected errors."""
+        """Runs a coroutine in the background, and logs unexpected errors. After `close` it is cancelled before it
+        begins."""
         task = asyncio.ensure_future(work)
         self._tasks.add(task)
         task.add_done_callback(self._ended)
+        if self._is_closed:
+            task.cancel()
         return task
 
     async def run_here(self, work: Coroutine[Any, Any, Value]) -> Value:
@@ -52,6 +56,7 @@ class Background:
 
     async def close(self) -> None:
         """Cancels all tasks, and waits for their end."""
+        self._is_closed = True
         tasks = list(self._tasks)
         for task in tasks:
             task.cancel()

@@ -43,6 +43,7 @@ class Retries:
         self._by_hand = by_hand
         self._wakes: dict[str, asyncio.Event] = {}
         self.tasks: dict[str, asyncio.Task[None]] = {}
+        self._is_closed = False
 
     def start_all(self, at_once: bool = False) -> None:
         """Starts the recovery of all services that are frozen, and weren't frozen by hand."""
@@ -53,7 +54,7 @@ class Retries:
     def start(self, service: str, at_once: bool = False) -> None:
         """Asks a service repeatedly until it is back."""
         task = self.tasks.get(service)
-        if self._by_hand or task is not None and not task.done():
+        if self._by_hand or self._is_closed or task is not None and not task.done():
             return
         self._wakes[service] = asyncio.Event()
         if at_once:
@@ -81,7 +82,8 @@ class Retries:
             task.cancel()
 
     async def close(self) -> None:
-        """Stops asking."""
+        """Stops asking. Later starts are ignored."""
+        self._is_closed = True
         tasks = list(self.tasks.values())
         for task in tasks:
             task.cancel()

@@ -8,12 +8,13 @@ import contextlib
 import os
 import signal
 from pathlib import Path
+from unittest import mock
 
 import pytest
 
 from client.test_quiet_ends import reports
 from roman_client import Call, DeviceFailed
-from roman_live.background import finished
+from roman_live.background import Background, finished
 from roman_live.config import CommandReach
 from roman_live.devices.command import LineCommand
 from roman_live.http_api import result
@@ -81,3 +82,27 @@ def test_a_change_that_fails_after_its_caller_has_gone() -> None:
         gate.set()
 
     assert reports(work) == []
+
+
+async def test_nothing_begins_in_a_background_that_was_closed() -> None:
+    begun: list[str] = []
+
+    async def work() -> None:
+        begun.append("work")
+
+    background = Background()
+    await background.close()
+    await asyncio.wait({background.run(work())})
+    assert begun == []
+
+
+async def test_a_home_that_was_closed_asks_no_frozen_service(tmp_path: Path) -> None:
+    """The program may be restarted while a home ends, which asks the frozen services again."""
+    playhouse = Playhouse(tmp_path)
+    async with playhouse.home() as home:
+        await home.dispatcher.freeze("window")
+        home.registry["window"].frozen = True
+    before = asyncio.all_tasks()
+    with mock.patch.object(home.fleet.retries, "_held", frozenset):
+        home.fleet.retries.start_all(at_once=True)
+    assert asyncio.all_tasks() == before

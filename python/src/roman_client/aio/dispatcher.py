@@ -192,7 +192,7 @@ class Dispatcher:
 
     async def close(self) -> None:
         """Waits for the posted changes, and closes the store. The session continues."""
-        if self._draining:
+        while self._draining:
             await asyncio.wait(set(self._draining))
         if self._store is not None:
             self._store.close()
