@@ -11,6 +11,7 @@ import subprocess
 import threading
 import time
 import urllib.request
+from collections.abc import Iterator
 from contextlib import AsyncExitStack
 from email.utils import parsedate_to_datetime
 from http.server import BaseHTTPRequestHandler, HTTPServer
@@ -94,6 +95,14 @@ class Api(Served):
                 if line.startswith(b"data: "):
                     events.append(json.loads(line[6:]))
         raise AssertionError("no state came")
+
+
+@pytest.fixture(autouse=True)
+def at_a_hangup() -> Iterator[None]:
+    """Lets a home end at a hangup, also if the tests run under nohup."""
+    before = signal.signal(signal.SIGHUP, signal.SIG_DFL)
+    yield
+    signal.signal(signal.SIGHUP, before)
 
 
 @pytest.fixture
